@@ -1,6 +1,7 @@
 -- What the chains of the conditions came to serves all candidates.
-use Rattle.std.proofs.Common.{◌≡◌, ℕ, ◌+◌, ◌-◌, ◌<◌, ◌≤◌, ◌^◌, Option, None, Some, List, [], ◌∷◌, ◌++◌, length, refl, sym, ap, subst, arith}
-use Rattle.std.specs.Prelude.{IfNone}
+use Rattle.std.proofs.Common.{◌≡◌, ℕ, ◌+◌, ◌-◌, ◌<◌, ◌^◌, Option, None, Some, List, [], ◌∷◌, ◌++◌, length, refl, sym, ◌∙◌, ap, subst, arith}
+use Rattle.std.specs.Prelude.{IfNone, IfSome}
+use Rattle.std.proofs.lemmas.Option.{IfSome_then}
 use Rattle.elim_apply.specs.declared.kept_rows.KnownRows.{KnownRows}
 use Rattle.elim_apply.specs.Kept.{AreKnownRows}
 use Rattle.geo_conditions.specs.declared.problem.Problem.{Problem}
@@ -35,6 +36,7 @@ use Rattle.geo_discover.specs.declared.figure.Figure.{Figure}
 use Rattle.geo_discover.specs.Inner.Searching.{IsCandidate}
 use Rattle.geo_discover.specs.Inner.Sharing.{AreMet, AreWorked, IsFigureOf, IsStoppedThere, from_conditions, program_lines, stopped_by}
 use Rattle.geo_discover.proofs.FixedAnswers.{front_count}
+use Rattle.geo_discover.proofs.Fronts.{front_with}
 use Rattle.geo_discover.proofs.Judging.{held_is}
 
 module _ (problem : Problem) (steps : ℕ) (known : List Var) (ends : List Summands) (no_known : known ≡ []) (no_ends : ends ≡ []) where
@@ -132,8 +134,9 @@ pub figure_is : (p : Source) (s : Statement) (q : Source) (figure : Figure) → 
     → AreKnownRows figure.problem.steps figure.numbers
     → AreWorked figure.problem.steps (items_of figure.problem.steps.nodes figure.problem.conditions) figure.steps (length q.commands + 2)
     figure.findings.known figure.findings.ends figure.conditions
+    → IfSome figure.front (λ n. n ≡ text_length (program_lines q))
     → IsFigureOf p figure
-figure_is p s q figure same small candidate problem numbers worked = record {
+figure_is p s q figure same small candidate problem numbers worked front = record {
   small = small;
   first = s;
   candidate = candidate;
@@ -143,6 +146,8 @@ figure_is p s q figure same small candidate problem numbers worked = record {
   worked =
       subst (λ (x : Source). AreWorked figure.problem.steps (items_of figure.problem.steps.nodes figure.problem.conditions) figure.steps
       (length x.commands + 2) figure.findings.known figure.findings.ends figure.conditions) same worked;
+  front = IfSome_then figure.front front
+      (λ n e. front_with p s n (e ∙ ap (λ (x : Source). text_length (program_lines x)) same));
 }
 
 -- it stays so where no more is found, and other numbers are known
@@ -160,4 +165,5 @@ figure_kept p figure numbers findings h known ends k = record {
       let xs = items_of c.nodes figure.problem.conditions in
       subst (λ ks. AreWorked c xs figure.steps (length p.commands + 2) ks findings.ends figure.conditions) (sym known)
       (subst (λ ls. AreWorked c xs figure.steps (length p.commands + 2) figure.findings.known ls figure.conditions) (sym ends) h.worked);
+  front = h.front;
 }

@@ -1,7 +1,7 @@
 -- The move to coordinates: it replaces each quantity, and leaves coordinates and parameters alone.
-use Rattle.std.proofs.Common.{◌≡◌, ◌≢◌, ℕ, zero, suc, ◌<◌, ◌||◌, ◌&&◌, ◌⊎◌, inl, inr, IsTrue, Bool, true, false, cond, Contains, Option}
-use Rattle.std.proofs.Common.{Some, None, List, [], ◌∷◌, length, refl, sym, ◌∙◌, ap, subst, arith, eq-eqb}
-use Rattle.std.specs.Prelude.{slice_get, if◌then◌else◌}
+use Rattle.std.proofs.Common.{◌≡◌, ◌≢◌, ℕ, zero, suc, ◌<◌, ◌&&◌, ◌⊎◌, inl, inr, IsTrue, Bool, true, false, cond, Contains, Option}
+use Rattle.std.proofs.Common.{Some, None, List, [], ◌∷◌, length, refl, sym, ◌∙◌, ap, subst, arith}
+use Rattle.std.specs.Prelude.{slice_get}
 use Rattle.std.specs.List.{cons_option, filter_map}
 use Rattle.std.specs.Option.{is_some, option_map}
 use Rattle.std.specs.Ordering.{is_eq}
@@ -16,21 +16,20 @@ use Rattle.geo_poly.specs.declared.variables.Var.{Var}
 use Rattle.geo_poly.specs.declared.variables.Var.TheVariants.{R, S, P, X as Abscissa, Y as Ordinate, T as Number}
 use Rattle.geo_poly.specs.KeptVariables.{AllNumerators}
 use Rattle.geo_poly.specs.Polynomials.{Summands}
-use Rattle.geo_poly.specs.PolynomialVariables.{AllVariables, IsPlain, IsQuantity, IsRatio, variables_of}
+use Rattle.geo_poly.specs.PolynomialVariables.{AllVariables, IsPlain, IsQuantity, variables_of}
 use Rattle.geo_poly.specs.Replace.{row_of}
 use Rattle.geo_poly.specs.Variables.{var_cmp}
-use Rattle.geo_poly.proofs.EachVariable.{all_variables, each-contained, each-variables}
+use Rattle.geo_poly.proofs.EachVariable.{all_variables}
 use Rattle.geo_poly.proofs.KeptVariables.{kept_property}
 use Rattle.geo_poly.proofs.Orders.{var_order}
 use Rattle.geo_terms.specs.declared.steps.Step.{Step}
-use Rattle.geo_terms.specs.declared.steps.Step.TheVariants.{Point as FreeStep, Inter, Foot, Pratio, Tratio, Weights}
 use Rattle.geo_terms.specs.Constructions.{Construction}
 use Rattle.elim_apply.specs.LemmaTable.{lemma_table}
 use Rattle.elim_apply.proofs.FoundRows.{Row_of, coords_row, pt}
 use Rattle.geo_logs.proofs.NamedPoints.{occurring_points}
 use Rattle.elim_apply.proofs.FormVariables.{OfForm, of-form}
 use Rattle.geo_logs.specs.declared.moves.Move.TheVariants.{Coords}
-use Rattle.geo_logs.specs.Defined.{HasFreePointsAlone, IsNextMove, Occurs, is_point}
+use Rattle.geo_logs.specs.Defined.{IsNextMove}
 use Rattle.geo_logs.specs.Moves.{IsMoved, replacement}
 use Rattle.geo_logs.specs.Naming.{IsNamed}
 

@@ -1,5 +1,5 @@
 -- How the log in the fixed frame ends is the same for programs with the same lines.
-use Rattle.std.proofs.Common.{◌≡◌, ℕ, suc, ◌-◌, inl, inr, not, ℤ, List, [], ◌∷◌, filter, length, refl, sym, ap, ◌∙◌, subst}
+use Rattle.std.proofs.Common.{◌≡◌, ℕ, suc, ◌-◌, inl, inr, not, ℤ, List, [], ◌∷◌, filter, length, sym, ap, ◌∙◌, subst}
 use Rattle.geo_poly.specs.declared.variables.Var.{Var}
 use Rattle.geo_poly.specs.Polynomials.{Summands}
 use Rattle.geo_program.specs.WellFormed.{IsWellFormed, Source}
@@ -15,7 +15,7 @@ use Rattle.geo_logs.specs.Ends.{Ending, ends_by, ends_with, stops, too_long}
 use Rattle.geo_logs.specs.Logs.{Subject}
 use Rattle.geo_logs.specs.Moves.{Stop}
 use Rattle.geo_logs.specs.Places.{IsBegun, Place, before_line, before_sample, before_start, in_chain}
-use Rattle.geo_logs.specs.Samples.{error_of, sample_variables}
+use Rattle.geo_logs.specs.Samples.{error_of}
 use Rattle.geo_logs.specs.Starts.{start_charge, start_of}
 use Rattle.log_checker.specs.Subjects.{source_lines}
 use Rattle.log_checker.proofs.AlikeLogs.{AlikeSubjects, begun_alike, next_line_alike, over, same_over, steps_alike, worked_alike}

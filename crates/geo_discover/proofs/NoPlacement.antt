@@ -1,13 +1,12 @@
 -- Where a search ends with a condition that is never met, no placement meets the commands.
 use Rattle.std.proofs.Common.{◌≡◌, ℕ, suc, ◌^◌, ◌<◌, ◌≤◌, ◌⊎◌, All, inl, inr, not, Option, Some, None, List, [], ◌∷◌, ◌++◌, filter, length, map}
 use Rattle.std.proofs.Common.{append-nil, refl, sym, ap, ◌∙◌, subst}
-use Rattle.std.proofs.lemmas.List.Elements.{All-append, All-cons, All-head, All-map, All-nil, All-same, All-tail, All-weaker}
+use Rattle.std.proofs.lemmas.List.Elements.{All-append, All-cons, All-head, All-map, All-nil, All-same, All-weaker}
 use Rattle.geo_points.specs.declared.ids.PointId.{PointId}
 use Rattle.geo_points.specs.Placements.{Placement}
 use Rattle.geo_points.specs.Points.{Point as Triple}
 use Rattle.ring_laws.specs.Fraction.{Fraction}
 use Rattle.geo_program.specs.declared.commands.Command.{Command}
-use Rattle.geo_program.specs.declared.commands.Command.TheVariants as command
 use Rattle.geo_program.specs.declared.names.NameKind.TheVariants as kind
 use Rattle.geo_program.specs.declared.statements.Statement.{Statement}
 use Rattle.geo_program.specs.declared.statements.Statement.TheVariants.{Collinear, Concyclic, Parallel, Perpendicular, SameLength}
@@ -15,7 +14,7 @@ use Rattle.geo_program.specs.Relations.{with_statement}
 use Rattle.geo_program.specs.WellFormed.{IsWellFormed, Source}
 use Rattle.geo_program.proofs.OnceNamed.{All-front}
 use Rattle.geo_terms.specs.Stores.{Store}
-use Rattle.geo_lowering.specs.CommandsMet.{AreCommandsMet, IsCommandMet, MeetsCommands}
+use Rattle.geo_lowering.specs.CommandsMet.{AreCommandsMet, IsCommandMet}
 use Rattle.geo_lowering.specs.Conditions.{Condition, IsConditionMet, crossing, different, nonzero, not_collinear, not_parallel}
 use Rattle.geo_lowering.specs.Counting.{counted, named, next_number}
 use Rattle.geo_conditions.specs.Lists.{Found, all_found, found_at, found_from}
@@ -28,7 +27,7 @@ use Rattle.proof_log.specs.declared.log.Verdict.{Verdict}
 use Rattle.proof_log.specs.declared.log.Verdict.TheVariants.{False, Impossible, Proved}
 use Rattle.proof_log.specs.Lines.{verdict_text}
 use Rattle.geo_prover.specs.Proving.{IsLogOf}
-use Rattle.geo_discover.specs.Candidates.{Segments, candidates, candidates_over, points_of, quadruples, segments_over, share_point, triples}
+use Rattle.geo_discover.specs.Candidates.{candidates, candidates_over, points_of, quadruples, segments_over, share_point, triples}
 use Rattle.geo_discover.specs.FoundTexts.{AreFindings, Finding, FirstIsAccepted, ImpossibleSearchesTell, IsSearched, CandidateOutcome, cut, open_end_at}
 use Rattle.geo_discover.specs.FoundTexts.{end_with, lines_with}
 use Rattle.geo_discover.specs.FoundTexts.{first_impossible, first_open, found, found_lines, impossible, impossible_in, nothing, open_by, open_still}

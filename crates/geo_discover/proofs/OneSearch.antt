@@ -1,7 +1,7 @@
 -- A program's search has one text and one end, and so have programs that are the same.
-use Rattle.std.proofs.Common.{◌≡◌, ℕ, ◌+◌, ◌<◌, ◌≤◌, ◌⊎◌, inl, inr, All, Option, Some, None, List, [], ◌∷◌, ◌++◌, codes, decimal, length, map}
+use Rattle.std.proofs.Common.{◌≡◌, ℕ, ◌+◌, ◌<◌, ◌≤◌, ◌⊎◌, inl, inr, All, Option, Some, None, List, [], ◌∷◌, ◌++◌, length, map}
 use Rattle.std.proofs.Common.{refl, sym, ap, ap₂, ◌∙◌, subst, arith}
-use Rattle.std.specs.List.{flat_map, range_with_len}
+use Rattle.std.specs.List.{range_with_len}
 use Rattle.std.proofs.lemmas.List.Elements.{All-head, All-tail}
 use Rattle.geo_points.specs.declared.ids.PointId.{PointId}
 use Rattle.geo_program.specs.CanonicalText.{line_text}
@@ -22,13 +22,13 @@ use Rattle.log_checker.proofs.OneSubject.{subjects_agree}
 use Rattle.proof_log.specs.declared.log.Line.{Line}
 use Rattle.geo_prover.specs.Proving.{IsLogOf}
 use Rattle.geo_discover.specs.Candidates.{candidates, candidates_over}
-use Rattle.geo_discover.specs.FoundTexts.{AreFindings, Finding, IsSearched, SearchEnd, SearchIsUnique, candidate_lines, cut, first_impossible}
+use Rattle.geo_discover.specs.FoundTexts.{AreFindings, Finding, SearchEnd, SearchIsUnique, candidate_lines, cut, first_impossible}
 use Rattle.geo_discover.specs.FoundTexts.{found_lines, lines_with, opens, outcome_of, relations, candidate_text, whole_end}
 use Rattle.geo_discover.specs.Inner.Searching.{counts_line, lines_of}
 use Rattle.log_checker.specs.Checkers.{with_feeds}
 use Rattle.geo_discover.proofs.CandidateForms.{candidates_are_relations}
 use Rattle.geo_discover.proofs.CandidateLaws.{candidates_are_well_formed}
-use Rattle.geo_discover.proofs.Putting.{text_length-append, text_one}
+use Rattle.geo_discover.proofs.Putting.{text_length-append}
 
 -- programs with the same lines have one defined log
 pub one_log : (p q : Source) (steps : ℕ) (lines other : List Line) (ending ending' : Ending) → IsWellFormed p → IsWellFormed q

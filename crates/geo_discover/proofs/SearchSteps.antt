@@ -1,8 +1,7 @@
 -- Steps of a search, one after another.
 use Rattle.std.proofs.Common.{◌≡◌, ℕ, zero, suc, ◌+◌, ◌≤◌, Option, Some, None, List, [], ◌∷◌, ◌++◌, append-nil, append_assoc}
-use Rattle.std.proofs.Common.{◌<◌, drop, length, refl, sym, ◌∙◌, ap, subst, take, arith}
-use Rattle.std.specs.Prelude.{slice_get, slice_index_or}
-use Rattle.std.proofs.lemmas.List.{length-append, length-take-le, take-append-drop, take_more}
+use Rattle.std.proofs.Common.{length, refl, sym, ◌∙◌, ap, subst, arith}
+use Rattle.std.proofs.lemmas.List.{length-append}
 use Rattle.std.proofs.lemmas.List.Concat.{flat_map-append}
 use Rattle.std.proofs.lemmas.List.Sums.{sum_by-append}
 use Rattle.geo_program.specs.declared.statements.Statement.{Statement}
@@ -268,32 +267,38 @@ breaks_later p steps ss us s t k n i m e a le b = record {
     go WriteFault w = behind WriteFault w
     go NoMemory w = behind NoMemory w
 
--- ONE MORE OF A LIST
-pub one_more : (p : Source) (steps : ℕ) (all : List Statement) (k : ℕ) (d : Statement) (s t u : Progress) → k < length all
-    → Examines p steps (take k all) s t → Examines p steps (slice_index_or all k d ∷ []) t u → Examines p steps (take (k + 1) all) s u
-one_more p steps all k d s t u lt a b =
-    subst (λ (ss : List Statement). Examines p steps ss s u) (sym (take_more all k d lt))
-    (examines_both p steps (take k all) (slice_index_or all k d ∷ []) s t u a b)
+-- A WALK
+-- the first of the candidates are examined, and these are left
+pub record IsWalked (p : Source) (steps : ℕ) (all left : List Statement) (s t : Progress) : Type 0 where
+  pub front : List Statement
+  pub split : front ++ left ≡ all
+  pub examined : Examines p steps front s t
 
-pub one_breaks : (p : Source) (steps : ℕ) (all : List Statement) (k : ℕ) (d : Statement) (s t : Progress) (h : Option (List ℕ)) (n i m : ℕ)
-    (e : DiscoverError) → k < length all → Examines p steps (take k all) s t → n ≤ i
-    → BreaksSearch p steps (slice_index_or all k d ∷ []) t h i m e → BreaksSearch p steps all s h n m e
-one_breaks p steps all k d s t h n i m e lt a le b =
-    let front = take k all in
-    let one = slice_index_or all k d ∷ [] in
-    let rest = drop (k + 1) all in
-    let split : (front ++ one) ++ rest ≡ all =
-    ap (λ (ss : List Statement). ss ++ rest) (sym (take_more all k d lt)) ∙ take-append-drop (k + 1) all in
-    subst (λ (ss : List Statement). BreaksSearch p steps ss s h n m e) split
-    (breaks_early p steps (front ++ one) rest s h n m e (breaks_later p steps front one s t h n i m e a le b))
+pub walk_begins : (p : Source) (steps : ℕ) (all : List Statement) (s : Progress) → s.bytes ≤ 67108864 → IsWalked p steps all all s s
+walk_begins p steps all s fits = record { front = []; split = refl; examined = examines_none p steps s fits }
 
--- how many there are so far
-pub counted_so_far : (p : Source) (steps : ℕ) (all : List Statement) (k : ℕ) (s t : Progress) → k < length all → s.examined ≡ 0
-    → Examines p steps (take k all) s t → t.examined ≡ k
-counted_so_far p steps all k s t lt none a =
-    let e = a.examined in
-    let n : length (take k all) ≡ k = length-take-le k all (omega (arith, lt)) in
-    omega (arith, e, n, none)
+pub walk_on : (p : Source) (steps : ℕ) (all left rest : List Statement) (x : Statement) (s t u : Progress) → left ≡ x ∷ rest
+    → IsWalked p steps all left s t → Examines p steps (x ∷ []) t u → IsWalked p steps all rest s u
+walk_on p steps all left rest x s t u e h one = record {
+  front = h.front ++ x ∷ [];
+  split = append_assoc h.front (x ∷ []) rest ∙ ap (λ (xs : List Statement). h.front ++ xs) (sym e) ∙ h.split;
+  examined = examines_both p steps h.front (x ∷ []) s t u h.examined one;
+}
+
+pub walk_ends : (p : Source) (steps : ℕ) (all left : List Statement) (s t : Progress) → left ≡ [] → IsWalked p steps all left s t
+    → Examines p steps all s t
+walk_ends p steps all left s t e h =
+    subst (λ (xs : List Statement). Examines p steps xs s t)
+    (sym (append-nil h.front) ∙ ap (λ (xs : List Statement). h.front ++ xs) (sym e) ∙ h.split) h.examined
+
+pub walk_breaks : (p : Source) (steps : ℕ) (all left rest : List Statement) (x : Statement) (s t : Progress) (held : Option (List ℕ)) (n i m : ℕ)
+    (e : DiscoverError) → left ≡ x ∷ rest → IsWalked p steps all left s t → n ≤ i
+    → BreaksSearch p steps (x ∷ []) t held i m e → BreaksSearch p steps all s held n m e
+walk_breaks p steps all left rest x s t held n i m e is h le b =
+    let one = x ∷ [] in
+    subst (λ (xs : List Statement). BreaksSearch p steps xs s held n m e)
+    (append_assoc h.front one rest ∙ ap (λ (xs : List Statement). h.front ++ xs) (sym is) ∙ h.split)
+    (breaks_early p steps (h.front ++ one) rest s held n m e (breaks_later p steps h.front one s t held n i m e h.examined le b))
 
 -- OTHER NAMES OF THE STEPS
 pub examines_with : {p : Source} {n m : ℕ} {ss : List Statement} {s t : Progress} → n ≡ m → Examines p n ss s t → Examines p m ss s t
@@ -307,7 +312,3 @@ breaks_with {p} {n} {m} {ss} {s} {held} {a} {b} {e} same h = subst (λ (k : ℕ)
 pub is_none : {A : Type 0} (o : Option A) → ((x : A) → o ≡ Some x → ⊥) → o ≡ None
 is_none None n = refl
 is_none (Some x) n = absurd (n x refl)
-
-pub no_first : {A : Type 0} (xs : List A) → slice_get xs 0 ≡ None → xs ≡ []
-no_first [] e = refl
-no_first (x ∷ xs) e = absurd (let f : Some x ≡ None = e in let g : ⊥ = cc in g)

@@ -166,6 +166,62 @@ module _ (p : Source) (s : Statement) (c : Construction) (conditions goals : Lis
             (halted q c conditions goals steps w small about r h.after lines_none size_none error
             (halts_on Full c whole part r u h.after passed error halts)))
 
+  -- LENGTHS
+  -- the lines before the chains and those of the conditions, as if they were written
+  abbrev pub joined : List ℕ → ℕ → State
+  joined text count = record {
+    lines = length (program_lines q) + count;
+    size = Written (text_length (program_lines q) + length text);
+    held = Some (log_text (program_lines q) ++ text);
+    faults = 0;
+  }
+
+  joined_passes : (known : List Var) (ends : List Summands) (text : List ℕ) (count left : ℕ)
+      → AreMet c conditions steps known ends text count left goals
+      → Passes whole (goals_part Full c known ends 1 left goals) (first_state (Some []) 0) (joined text count)
+  joined_passes known ends text count left met =
+      let first = program_lines q in
+      let t : State = record { lines = length first; size = Written (text_length first); held = Some (log_text first); faults = 0 } in
+      past_conditions known ends text count left (first_state (Some []) 0) t (joined text count)
+      (record {
+        counted = omega arith;
+        measured = let e : text_length first ≡ 0 + text_length first = omega arith in ap (λ (n : ℕ). Written n) e;
+        written = refl;
+        faults = refl;
+      })
+      met
+      (λ lines is counted. record {
+        counted = ap (λ (n : ℕ). length first + n) counted;
+        measured = ap (λ (xs : List ℕ). Written (text_length first + length xs)) is;
+        written = ap (λ (xs : List ℕ). Some (log_text first ++ xs)) is;
+        faults = refl;
+      })
+
+  -- what is said of the rest by so many lines is what the whole log says
+  pub lengths_judged : (known : List Var) (ends : List Summands) (text : List ℕ) (count left lines : ℕ) (judgement : Judgement)
+      → AreMet c conditions steps known ends text count left goals → lines ≡ (length p.commands + 2) + count
+      → IsSaid c (goals_part Full c known ends 1 left goals)
+      (record {
+        lines = lines;
+        size = Written (text_length (program_lines q) + length text);
+        held = Some (log_text (program_lines q) ++ text);
+        faults = 0;
+      })
+      judgement
+      → IsJudged p steps s judgement
+  lengths_judged known ends text count left lines judgement met counted said =
+      let part = goals_part Full c known ends 1 left goals in
+      let k : length (program_lines q) ≡ length p.commands + 2 = front_count q (subject_with q c conditions goals) refl in
+      let same : lines ≡ length (program_lines q) + count = omega (arith, counted, k) in
+      said_judged (first_state (Some []) 0) refl refl refl refl part (joined text count) judgement
+      (joined_passes known ends text count left met) refl
+      (subst (λ (n : ℕ). IsSaid c part (record {
+        lines = n;
+        size = Written (text_length (program_lines q) + length text);
+        held = Some (log_text (program_lines q) ++ text);
+        faults = 0;
+      }) judgement) same said)
+
   -- STOPS
   -- a stop in the conditions is one of the whole log
   module _ (bytes : ℕ) (size : Size) (room : Fits (with_text size bytes))

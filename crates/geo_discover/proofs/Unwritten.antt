@@ -1,11 +1,9 @@
 -- A log that is bounded and not written says what the written one would say.
-use Rattle.std.proofs.Common.{◌≡◌, ℕ, ◌+◌, ◌≤◌, inl, inr, Some, Ok, Err, List, [], ◌∷◌, ◌++◌, refl, sym, subst, arith}
+use Rattle.std.proofs.Common.{◌≡◌, ℕ, ◌+◌, ◌≤◌, inl, inr, Some, Ok, Err, List, [], ◌∷◌, ◌++◌, refl, subst, arith}
 use Rattle.std.specs.Prelude.{IfErr, IfOk, IfSome, Result}
 use Rattle.geo_logs.specs.Ends.{stop_line, text_length}
 use Rattle.geo_logs.specs.Moves.{Stop, spent, too_large}
 use Rattle.geo_poly.specs.declared.limits.Which.{Which}
-use Rattle.geo_poly.specs.declared.variables.Var.{Var}
-use Rattle.geo_poly.specs.Polynomials.{Summands}
 use Rattle.geo_terms.specs.Constructions.{Construction}
 use Rattle.proof_log.specs.declared.log.Line.{Line}
 use Rattle.proof_log.specs.declared.log.Verdict.{Verdict}
@@ -51,7 +49,8 @@ fits_after (Written bytes) n h = h
 fits_after Counted n h = omega arith
 fits_after (Bounded bytes) n h = h
 
-module _ (c : Construction) (part : Part) (s t : State) (z : Size) (held : List ℕ) (bounded : s.size ≡ Bounded (bytes_of z)) where
+module _ (c : Construction) (part : Part) (s t : State) (z : Size) (held : List ℕ) (most : ℕ) (bounded : s.size ≡ Bounded most)
+    (less : bytes_of z ≤ most) where
   -- the log as if it was written
   abbrev before : State
   before = record { lines = s.lines; size = z; held = Some held; faults = 0 }
@@ -61,9 +60,9 @@ module _ (c : Construction) (part : Part) (s t : State) (z : Size) (held : List 
 
   whole_fits : (n : ℕ) → IsSizeAfter s.size n t.size → Fits t.size → Fits (with_text z n)
   whole_fits n h fits =
-      let m : IsSizeAfter (Bounded (bytes_of z)) n t.size = subst (λ (x : Size). IsSizeAfter x n t.size) bounded h in
+      let m : IsSizeAfter (Bounded most) n t.size = subst (λ (x : Size). IsSizeAfter x n t.size) bounded h in
       let f : m.0 ≤ 67108864 = subst Fits m.1 fits in
-      let all = m.2 in fits_after z n (omega (arith, f, all))
+      let all = m.2 in fits_after z n (omega (arith, f, all, less))
 
   -- a verdict that needs no text
   pub unwritten_verdict : (verdict : Verdict) (left : ℕ) (judgement : Judgement) → Fits t.size → Finishes part s t verdict left
@@ -101,9 +100,9 @@ module _ (c : Construction) (part : Part) (s t : State) (z : Size) (held : List 
     begun = h.begun;
     next = h.next;
     fits =
-        let f : bytes_of z + text_length h.lines ≤ 67108864 =
+        let f : most + text_length h.lines ≤ 67108864 =
         subst (λ (x : Size). Fits (with_text x (text_length h.lines))) bounded h.fits in
-        fits_after z (text_length h.lines) f;
+        fits_after z (text_length h.lines) (omega (arith, f, less));
     last = h.last;
     written = holds_after z held (log_text (h.lines ++ stop_line n stop ∷ []));
     faults = refl;
@@ -146,8 +145,3 @@ module _ (c : Construction) (part : Part) (s t : State) (z : Size) (held : List 
   unwritten_said (Err stopped.TooLong) h g fits = tt
   unwritten_said (Err stopped.WriteFault) h g fits = tt
   unwritten_said (Err stopped.NoMemory) h g fits = tt
-
--- what holds of the findings holds of equal ones
-pub along : (P : List Var → List Summands → Type 0) (k k' : List Var) (e e' : List Summands) → k' ≡ k → e' ≡ e → P k e → P k' e'
-along P k k' e e' same_k same_e h =
-    subst (λ (x : List Var). P x e') (sym same_k) (subst (λ (y : List Summands). P k y) (sym same_e) h)

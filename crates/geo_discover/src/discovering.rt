@@ -9,19 +9,20 @@ ghost use Rattle.geo_discover.specs.Candidates.{candidates};
 ghost use Rattle.geo_discover.specs.Inner.Searching.{BreaksSearch, Examines, IsAnswer, IsCandidate};
 ghost use Rattle.geo_discover.specs.Inner.Searching.{progress};
 ghost use Rattle.geo_discover.specs.Inner.Sharing.{IsFigureOf};
+ghost use Rattle.geo_discover.specs.Inner.Walks.{candidates_left};
 ghost use Rattle.geo_logs.specs.Ends.{ends_by};
 ghost use Rattle.geo_logs.specs.Moves.{spent, too_large};
 ghost use Rattle.geo_poly.specs.declared.limits.Which.{Which};
 ghost use Rattle.geo_program.specs.Programs.{program_text, source_of};
 
+use crate::candidates::Candidates;
 use crate::errors::DiscoverError;
 use crate::figure::{Figure, figure_of};
-use crate::listing::list_candidates;
 use crate::point_counts::point_count;
 use crate::search::{Found, Search};
 use geo_base::Sink;
 use geo_points::NoMemory;
-use geo_program::{Program, Statement};
+use geo_program::{Printer, Program};
 use std::alloc::Global;
 
 /// Writes each relation between the points of the program, each with its log; the candidates that
@@ -80,18 +81,18 @@ fn discover_all<K: Sink>(
     ensures heard { ¬ IsErrOf result DiscoverError.WriteFault
         → K.faults sink.new ≡ K.faults sink.old }
 {
-    let all = candidates_of(alloc, program)?;
+    let all = candidates_of(program)?;
     let mut search = Search::new();
-    examine_all(alloc, program, steps, &all, &mut search, sink)?;
+    examine_all(alloc, program, steps, all, &mut search, sink)?;
     search.conclude(alloc, sink)
 }
 
 /// The candidates of the program.
-fn candidates_of(alloc: Global, program: &Program) -> Result<Vec<Statement>, NoMemory>
-    ensures { IfOk result (λ all. all.items ≡ candidates (source_of program.now)) }
+fn candidates_of(program: &Program) -> Result<Candidates, NoMemory>
+    ensures { IfOk result (λ all. candidates_left all ≡ candidates (source_of program.now)) }
 {
     let points = point_count(program.names.as_slice())?;
-    list_candidates(alloc, points)
+    Ok(Candidates::over(points))
 }
 
 /// Examines the candidates in order.
@@ -99,53 +100,61 @@ fn examine_all<K: Sink>(
     alloc: Global,
     program: &Program,
     steps: u64,
-    all: &[Statement],
+    all: Candidates,
     search: &mut Search,
     sink: &mut K,
 ) -> Result<(), DiscoverError>
     requires short { length (program_text program.now) ≤ 67108864 }
-    requires candidates { AllByRecursion (IsCandidate (source_of program.now)) all.now }
-    requires none { search.old.examined ≡ 0 }
-    ensures ok { OnOk result (Examines (source_of program.now) steps all.now
+    requires candidates { AllByRecursion (IsCandidate (source_of program.now))
+        (candidates_left all) }
+    ensures ok { OnOk result (Examines (source_of program.now) steps (candidates_left all)
         (progress search.old (K.held sink.old)) (progress search.new (K.held sink.new))) }
-    ensures err { IfErr result (BreaksSearch (source_of program.now) steps all.now
+    ensures err { IfErr result (BreaksSearch (source_of program.now) steps (candidates_left all)
         (progress search.old (K.held sink.old)) (K.held sink.new)
         (K.faults sink.old) (K.faults sink.new)) }
     ensures faults { K.faults sink.old ≤ K.faults sink.new }
     ensures heard { ¬ IsErrOf result DiscoverError.WriteFault
         → K.faults sink.new ≡ K.faults sink.old }
 {
-    let Some(first) = all.first() else {
+    let mut ahead = all;
+    let Some(first) = ahead.next() else {
         return Ok(());
     };
-    let mut figure = figure_of(alloc, program, steps, *first)?;
-    examine_each(alloc, program, &mut figure, all, search, sink)
+    let mut figure = figure_of(alloc, program, steps, first)?;
+    let printer = Printer::new(alloc, program)?;
+    examine_each(alloc, program, &printer, &mut figure, all, search, sink)
 }
 
 /// The same, with what they have in common.
 fn examine_each<K: Sink>(
     alloc: Global,
     program: &Program,
+    printer: &Printer,
     figure: &mut Figure,
-    all: &[Statement],
+    all: Candidates,
     search: &mut Search,
     sink: &mut K,
 ) -> Result<(), DiscoverError>
     requires short { length (program_text program.now) ≤ 67108864 }
+    requires names { printer.now.names ≡ program.now.names }
+    requires terms { printer.now.terms.now ≡ program.now.terms }
     requires figure { IsFigureOf (source_of program.now) figure.old }
-    requires candidates { AllByRecursion (IsCandidate (source_of program.now)) all.now }
-    requires none { search.old.examined ≡ 0 }
-    ensures ok { OnOk result (Examines (source_of program.now) figure.old.steps all.now
+    requires candidates { AllByRecursion (IsCandidate (source_of program.now))
+        (candidates_left all) }
+    ensures ok { OnOk result (Examines (source_of program.now) figure.old.steps
+        (candidates_left all)
         (progress search.old (K.held sink.old)) (progress search.new (K.held sink.new))) }
-    ensures err { IfErr result (BreaksSearch (source_of program.now) figure.old.steps all.now
+    ensures err { IfErr result (BreaksSearch (source_of program.now) figure.old.steps
+        (candidates_left all)
         (progress search.old (K.held sink.old)) (K.held sink.new)
         (K.faults sink.old) (K.faults sink.new)) }
     ensures faults { K.faults sink.old ≤ K.faults sink.new }
     ensures heard { ¬ IsErrOf result DiscoverError.WriteFault
         → K.faults sink.new ≡ K.faults sink.old }
 {
-    for statement in all {
-        search.examine(alloc, program, figure, *statement, sink)?;
+    let mut left = all;
+    while let Some(statement) = left.next() {
+        search.examine(alloc, program, printer, figure, statement, sink)?;
     }
     Ok(())
 }

@@ -1,8 +1,9 @@
 //! What the log of one candidate says of it.
 
-ghost use Rattle.std.specs.Prelude.{◌≡◌, ◌≢◌, ◌≤◌, ℕ, [], All, IfErr, IfOk, IfSome, List, OnOk};
-ghost use Rattle.std.specs.Prelude.{Some, length};
+ghost use Rattle.std.specs.Prelude.{◌≡◌, ◌≢◌, ◌+◌, ◌≤◌, ℕ, [], All, IfErr, IfOk, IfSome, IsSomeAnd, List};
+ghost use Rattle.std.specs.Prelude.{OnOk, Some, length};
 ghost use Rattle.elim_apply.specs.Kept.{AreKnownRows};
+ghost use Rattle.geo_logs.specs.Ends.{text_length};
 ghost use Rattle.geo_poly.specs.Specialise.{NoneZero};
 ghost use Rattle.geo_program.specs.Programs.{program_text, source_of};
 ghost use Rattle.geo_program.specs.Relations.{with_statement};
@@ -15,17 +16,19 @@ ghost use Rattle.log_maker.specs.declared.frame.Frame.TheVariants.{Full};
 ghost use Rattle.log_maker.specs.declared.size.Size.{Size};
 ghost use Rattle.geo_discover.specs.Inner.Searching.{IsCandidate, IsJudged, judgement_by};
 ghost use Rattle.geo_discover.specs.Inner.Searching.{unwritten_judgement};
-ghost use Rattle.geo_discover.specs.Inner.Sharing.{IsFigureOf, IsSaid, program_lines};
+ghost use Rattle.geo_discover.specs.Inner.Sharing.{IsFigureOf, IsGoalOf, IsSaid, program_lines};
 
 use crate::figure::{Figure, Worked};
+use crate::fixing::lines_before;
 use crate::goal::{Goal, goal_of};
+use crate::texts::sum_within;
 use elim_apply::KnownRows;
 use geo_base::{Budget, SureSink};
 use geo_points::NoMemory;
-use geo_program::{Program, Statement};
+use geo_program::{Printer, Program, Statement};
 use geo_prover::{prove, write_first_lines};
 use geo_terms::Steps;
-use log_maker::{Findings, Frame, LogWriter, ProveError, work_rest};
+use log_maker::{Findings, Frame, LogWriter, ProveError, Size, work_rest};
 use proof_log::Verdict;
 use std::alloc::Global;
 
@@ -46,21 +49,138 @@ pub(crate) enum Judgement {
 pub(crate) fn judge(
     alloc: Global,
     program: &Program,
+    printer: &Printer,
     figure: &mut Figure,
     statement: Statement,
 ) -> Result<Judgement, NoMemory>
     requires candidate { IsCandidate (source_of program.now) statement }
     requires short { length (program_text program.now) ≤ 67108864 }
+    requires names { printer.now.names ≡ program.now.names }
+    requires terms { printer.now.terms.now ≡ program.now.terms }
     requires figure { IsFigureOf (source_of program.now) figure.old }
     ensures judged { IfOk result
         (IsJudged (source_of program.now) figure.old.steps statement) }
     ensures figure { OnOk result (IsFigureOf (source_of program.now) figure.new) }
     ensures steps { figure.new.steps ≡ figure.old.steps }
 {
-    match judge_shared(alloc, program, figure, statement)? {
+    let goal = goal_of(alloc, program, printer, &figure.problem.points, statement)?;
+    judge_goal(alloc, program, figure, statement, &goal)
+}
+
+/// The same, where its goal is made. A log that does not prove the goal is not written, where its
+/// text is surely within the limit.
+fn judge_goal(
+    alloc: Global,
+    program: &Program,
+    figure: &mut Figure,
+    statement: Statement,
+    goal: &Goal,
+) -> Result<Judgement, NoMemory>
+    requires candidate { IsCandidate (source_of program.now) statement }
+    requires short { length (program_text program.now) ≤ 67108864 }
+    requires figure { IsFigureOf (source_of program.now) figure.old }
+    requires goal { IsGoalOf (source_of program.now) statement goal.now }
+    ensures judged { IfOk result
+        (IsJudged (source_of program.now) figure.old.steps statement) }
+    ensures figure { OnOk result (IsFigureOf (source_of program.now) figure.new) }
+    ensures steps { figure.new.steps ≡ figure.old.steps }
+{
+    if let Some(judgement) = judge_by_lengths(alloc, program, figure, statement, goal) {
+        return Ok(judgement);
+    }
+    match judge_shared(alloc, program, figure, statement, goal)? {
         Some(judgement) => Ok(judgement),
         None => judge_alone(alloc, program, figure.steps, statement),
     }
+}
+
+/// What is said by a log of whose text nothing is made, where that is enough and the text is surely
+/// within the limit.
+fn judge_by_lengths(
+    alloc: Global,
+    program: &Program,
+    figure: &mut Figure,
+    statement: Statement,
+    goal: &Goal,
+) -> Option<Judgement>
+    requires candidate { IsCandidate (source_of program.now) statement }
+    requires figure { IsFigureOf (source_of program.now) figure.old }
+    requires goal { IsGoalOf (source_of program.now) statement goal.now }
+    ensures judged { IfSome result
+        (IsJudged (source_of program.now) figure.old.steps statement) }
+    ensures figure { IsFigureOf (source_of program.now) figure.new }
+    ensures steps { figure.new.steps ≡ figure.old.steps }
+{
+    match front_of(figure.front, goal.bytes) {
+        Some(front) => judge_behind_front(alloc, program, figure, statement, goal, front),
+        None => None,
+    }
+}
+
+/// How many bytes the lines before the chains have at most, with a statement whose text has so
+/// many, where that is known and within the limit.
+fn front_of(front: Option<u64>, statement: u64) -> Option<u64>
+    ensures { IfSome result (λ bytes. IsSomeAnd front (λ n. bytes ≡ n + statement)) }
+{
+    match front {
+        Some(front) => sum_within(front, statement),
+        None => None,
+    }
+}
+
+/// The same, where the lines before the chains have so many bytes at most.
+fn judge_behind_front(
+    alloc: Global,
+    program: &Program,
+    figure: &mut Figure,
+    statement: Statement,
+    goal: &Goal,
+    front: u64,
+) -> Option<Judgement>
+    requires candidate { IsCandidate (source_of program.now) statement }
+    requires figure { IsFigureOf (source_of program.now) figure.old }
+    requires goal { IsGoalOf (source_of program.now) statement goal.now }
+    requires front { text_length
+        (program_lines (with_statement (source_of program.now) statement)) ≤ front }
+    ensures judged { IfSome result
+        (IsJudged (source_of program.now) figure.old.steps statement) }
+    ensures figure { IsFigureOf (source_of program.now) figure.new }
+    ensures steps { figure.new.steps ≡ figure.old.steps }
+{
+    match &figure.conditions {
+        Worked::Met { text, lines, left } => {
+            let before = lines_before(program);
+            let log = bounded_log(before, *lines, front, text.bytes().len() as u64)?;
+            judge_unwritten(
+                alloc,
+                &figure.problem.steps,
+                goal,
+                *left,
+                &mut figure.findings,
+                &mut figure.numbers,
+                log,
+            )
+        }
+        Worked::Stopped { error, bytes } => match sum_within(front, *bytes) {
+            Some(_) => Some(Judgement::Open(*error)),
+            None => None,
+        },
+        Worked::Unshared => None,
+    }
+}
+
+/// A log with so many lines, whose text has at most so many bytes, as sums of two, where that is
+/// within the limits.
+fn bounded_log(before: u64, lines: u64, front: u64, text: u64) -> Option<LogWriter>
+    ensures lines { IfSome result (λ log. log.lines ≡ before + lines) }
+    ensures size { IfSome result (λ log. log.size ≡ Size.Bounded (front + text)) }
+{
+    let bytes = sum_within(front, text)?;
+    let lines = sum_within(before, lines)?;
+    Some(LogWriter {
+        lines,
+        size: Size::Bounded(bytes),
+    })
 }
 
 /// What is said by a log that is made from the beginning.
@@ -89,10 +209,12 @@ fn judge_shared(
     program: &Program,
     figure: &mut Figure,
     statement: Statement,
+    goal: &Goal,
 ) -> Result<Option<Judgement>, NoMemory>
     requires candidate { IsCandidate (source_of program.now) statement }
     requires short { length (program_text program.now) ≤ 67108864 }
     requires figure { IsFigureOf (source_of program.now) figure.old }
+    requires goal { IsGoalOf (source_of program.now) statement goal.now }
     ensures judged { IfOk result (λ judgement. IfSome judgement
         (IsJudged (source_of program.now) figure.old.steps statement)) }
     ensures figure { OnOk result (IsFigureOf (source_of program.now) figure.new) }
@@ -102,7 +224,7 @@ fn judge_shared(
     let mut log = LogWriter::new();
     let mut text = SureSink::new(alloc);
     match write_first_lines(alloc, &candidate, &mut log, &mut text) {
-        Ok(()) => judge_behind(alloc, program, figure, statement, log, text),
+        Ok(()) => judge_behind(alloc, program, figure, statement, goal, log, text),
         Err(_) => Ok(None),
     }
 }
@@ -113,11 +235,13 @@ fn judge_behind(
     program: &Program,
     figure: &mut Figure,
     statement: Statement,
+    goal: &Goal,
     mut log: LogWriter,
     mut text: SureSink,
 ) -> Result<Option<Judgement>, NoMemory>
     requires candidate { IsCandidate (source_of program.now) statement }
     requires figure { IsFigureOf (source_of program.now) figure.old }
+    requires goal { IsGoalOf (source_of program.now) statement goal.now }
     requires first { Writes (program_lines (with_statement (source_of program.now) statement))
         (first_state (Some []) 0) (state log (Some text) 0) }
     ensures judged { IfOk result (λ judgement. IfSome judgement
@@ -132,11 +256,10 @@ fn judge_behind(
             left,
         } => match log.write_again(&mut text, *lines, again.bytes()) {
             Ok(()) => {
-                let goal = goal_of(alloc, program, &figure.problem.points, statement)?;
-                let judgement = judge_goal(
+                let judgement = judge_written(
                     alloc,
                     &figure.problem.steps,
-                    &goal,
+                    goal,
                     *left,
                     &mut figure.findings,
                     &mut figure.numbers,
@@ -154,40 +277,9 @@ fn judge_behind(
     }
 }
 
-/// What is said of a goal behind the lines that are written, where so many steps are left. What the
-/// chains of the conditions have shown stays as it is. A log that does not prove the goal is not
-/// written, where its text is surely within the limit.
-fn judge_goal(
-    alloc: Global,
-    steps: &Steps,
-    goal: &Goal,
-    left: u64,
-    findings: &mut Findings,
-    numbers: &mut KnownRows,
-    log: LogWriter,
-    text: SureSink,
-) -> Result<Judgement, NoMemory>
-    requires ready { All (IsItemReady steps.now goal.now.terms.nodes) goal.now.goals }
-    requires numbers { AreKnownRows steps.now numbers.old }
-    requires nonzero { NoneZero findings.old.ends }
-    requires writable { CanWrite Full steps.now (goals_from Full steps.now goal.now.terms.nodes
-        goal.now.goals 0 findings.old.known findings.old.ends left) log.size }
-    ensures said { IfOk result (IsSaid steps.now (goals_from Full steps.now goal.now.terms.nodes
-        goal.now.goals 0 findings.old.known findings.old.ends left)
-        (state log (Some text) 0)) }
-    ensures numbers { AreKnownRows steps.now numbers.new }
-    ensures known { findings.new.known ≡ findings.old.known }
-    ensures ends { findings.new.ends ≡ findings.old.ends }
-{
-    let unwritten = judge_unwritten(alloc, steps, goal, left, findings, numbers, log.bounding());
-    match unwritten {
-        Some(judgement) => Ok(judgement),
-        None => judge_written(alloc, steps, goal, left, findings, numbers, log, text),
-    }
-}
-
-/// The same by a log whose lines are not written, where the goal is not proved and the text is
-/// surely within the limit.
+/// What is said of a goal by a log whose lines are not written, where so many steps are left, the
+/// goal is not proved and the text is surely within the limit. What the chains of the conditions
+/// have shown stays as it is.
 fn judge_unwritten(
     alloc: Global,
     steps: &Steps,
@@ -201,8 +293,8 @@ fn judge_unwritten(
     requires numbers { AreKnownRows steps.now numbers.old }
     requires nonzero { NoneZero findings.old.ends }
     requires bounded { (bytes : ℕ) × (log.size ≡ Size.Bounded bytes) }
-    ensures said { (size : Size) (held : List ℕ) → log.size ≡ Size.Bounded (bytes_of size)
-        → IfSome result (IsSaid steps.now (goals_from Full steps.now goal.now.terms.nodes
+    ensures said { (size : Size) (held : List ℕ) (bytes : ℕ) → log.size ≡ Size.Bounded bytes
+        → bytes_of size ≤ bytes → IfSome result (IsSaid steps.now (goals_from Full steps.now goal.now.terms.nodes
         goal.now.goals 0 findings.old.known findings.old.ends left)
         (record { lines = log.lines; size = size; held = Some held; faults = 0 })) }
     ensures numbers { AreKnownRows steps.now numbers.new }
@@ -237,7 +329,7 @@ fn unwritten_judgement(verdict: Result<Verdict, ProveError>) -> Option<Judgement
     }
 }
 
-/// The same by a log that is written.
+/// The same by a log that is written behind the lines that it has.
 fn judge_written(
     alloc: Global,
     steps: &Steps,

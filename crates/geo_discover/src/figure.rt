@@ -1,6 +1,6 @@
 //! What all candidates of a search have in common, worked once, before the first of them.
 
-ghost use Rattle.std.specs.Prelude.{◌≡◌, ◌+◌, ◌≤◌, ℕ, [], IfOk, length};
+ghost use Rattle.std.specs.Prelude.{◌≡◌, ◌+◌, ◌≤◌, ℕ, [], IfOk, IfSome, length};
 ghost use Rattle.elim_apply.specs.Kept.{AreKnownRows};
 ghost use Rattle.geo_conditions.specs.Lists.{IsProblem};
 ghost use Rattle.geo_conditions.specs.Problems.{form_of_problem};
@@ -10,7 +10,9 @@ ghost use Rattle.log_maker.specs.Parts.{CanWrite, items_of};
 ghost use Rattle.log_maker.specs.Tasks.{HasReadyItems, conditions_from};
 ghost use Rattle.log_maker.specs.declared.frame.Frame.TheVariants.{Full};
 ghost use Rattle.geo_discover.specs.Inner.Searching.{IsCandidate};
-ghost use Rattle.geo_discover.specs.Inner.Sharing.{AreWorked, IsFigureOf, stopped_by};
+ghost use Rattle.geo_logs.specs.Ends.{text_length};
+ghost use Rattle.geo_discover.specs.Inner.Sharing.{AreWorked, IsFigureOf, program_lines};
+ghost use Rattle.geo_discover.specs.Inner.Sharing.{stopped_by};
 
 use elim_apply::KnownRows;
 use geo_base::{Budget, SureSink};
@@ -36,6 +38,9 @@ pub(crate) struct Figure {
     pub findings: Findings,
     /// What these chains came to.
     pub conditions: Worked,
+    /// How many bytes the lines before the chains have at most, without the statement's text, if
+    /// that is known.
+    pub front: Option<u64>,
 }
 
 /// What the chains of the conditions came to.
@@ -80,13 +85,28 @@ pub(crate) fn figure_of(
         &mut findings,
         &mut numbers,
     );
+    let front = front_bytes(alloc, &candidate);
     Ok(Figure {
         steps,
         problem,
         numbers,
         findings,
         conditions,
+        front,
     })
+}
+
+/// How many bytes the lines before the chains of a candidate's log have, if it can have them.
+fn front_bytes(alloc: Global, candidate: &Program) -> Option<u64>
+    ensures { IfSome result (λ bytes.
+        bytes ≡ text_length (program_lines (source_of candidate.now))) }
+{
+    let mut log = LogWriter::new();
+    let mut text = SureSink::new(alloc);
+    match write_first_lines(alloc, candidate, &mut log, &mut text) {
+        Ok(()) => Some(text.bytes().len() as u64),
+        Err(_) => None,
+    }
 }
 
 /// What the chains of the conditions come to, behind the first lines of a candidate's log.

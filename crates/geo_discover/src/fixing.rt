@@ -56,7 +56,7 @@ fn fixed_all(alloc: Global, program: &Program, steps: u64) -> Result<Verdict, Fi
 }
 
 /// The lines of a log before its chains: the header, the commands, the statement.
-fn lines_before(program: &Program) -> u64
+pub(crate) fn lines_before(program: &Program) -> u64
     ensures count { result ≡ length program.now.commands + 2 }
     ensures small { result + 1 < 2 ^ 64 }
 {

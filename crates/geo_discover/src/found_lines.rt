@@ -18,11 +18,14 @@ pub(crate) fn put_candidate<K: Sink>(
     alloc: Global,
     text: &mut FoundText,
     program: &Program,
+    printer: &Printer,
     word: &[u8],
     statement: Statement,
     sink: &mut K,
 ) -> Result<(), DiscoverError>
     requires candidate { IsCandidate (source_of program.now) statement }
+    requires names { printer.now.names ≡ program.now.names }
+    requires terms { printer.now.terms.now ≡ program.now.terms }
     ensures ok { OnOk result (PutsLines
         ((word.now ++ candidate_text (source_of program.now) statement) ∷ [])
         text.old.bytes text.new.bytes (K.held sink.old) (K.held sink.new)) }
@@ -34,7 +37,7 @@ pub(crate) fn put_candidate<K: Sink>(
     ensures heard { ¬ IsErrOf result DiscoverError.WriteFault
         → K.faults sink.new ≡ K.faults sink.old }
 {
-    let line = candidate_line(alloc, program, word, statement)?;
+    let line = candidate_line(alloc, program, printer, word, statement)?;
     text.put(sink, &line.bytes)
 }
 
@@ -42,16 +45,18 @@ pub(crate) fn put_candidate<K: Sink>(
 fn candidate_line(
     alloc: Global,
     program: &Program,
+    printer: &Printer,
     word: &[u8],
     statement: Statement,
 ) -> Result<Text, NoMemory>
     requires candidate { IsCandidate (source_of program.now) statement }
+    requires names { printer.now.names ≡ program.now.names }
+    requires terms { printer.now.terms.now ≡ program.now.terms }
     ensures { IfOk result (λ line. line
         ≡ (word.now ++ candidate_text (source_of program.now) statement) ++ 10 ∷ []) }
 {
     // `len` also says that the store is valid.
     let _ = program.terms.len();
-    let printer = Printer::new(alloc, program)?;
     let text = printer.statement_text(alloc, statement)?;
     let mut bytes = Vec::from_slice(alloc, word)?;
     bytes.extend_from_slice(&text.bytes)?;

@@ -1,67 +1,47 @@
-//! Candidates of four points: each four on a circle.
+//! Each four of some points, the earlier first.
 
-ghost use Rattle.std.specs.Prelude.{◌≡◌, ◌+◌, ◌<◌, ◌++◌, OnOk, map};
-ghost use Rattle.geo_program.specs.declared.statements.Statement.TheVariants.{Concyclic};
-ghost use Rattle.geo_discover.specs.Candidates.{pairs, quadruples, triples};
-ghost use Rattle.geo_discover.specs.Inner.Walks.{points_behind, pt};
+ghost use Rattle.std.specs.Iterator.{YieldsFirst};
+ghost use Rattle.std.specs.Prelude.{◌≡◌};
+ghost use Rattle.geo_discover.specs.Candidates.{quadruples};
+ghost use Rattle.geo_discover.specs.Inner.Walks.{points_left, quadruples_left};
 
-use geo_points::{NoMemory, PointId};
-use geo_program::Statement;
+use crate::point_range::PointRange;
+use crate::triples::Triples;
+use geo_points::PointId;
 
-/// Appends each four of so many points, rising.
-pub(crate) fn push_quadruples(items: &mut Vec<Statement>, points: u32) -> Result<(), NoMemory>
-    ensures { OnOk result (items.new.items ≡ items.old.items
-        ++ map (λ q. Concyclic q.0 q.1 q.2 q.3) (quadruples (points_behind 0 points))) }
-{
-    for a in 0..points {
-        push_from(items, points, a)?;
-    }
-    Ok(())
+/// The quadruples that are left.
+#[derive(Clone, Copy)]
+pub(crate) struct Quadruples {
+    /// The first point of the next ones.
+    pub first: PointId,
+    /// Their other points.
+    pub others: Triples,
+    /// The points of those behind them.
+    pub later: PointRange,
 }
 
-/// Those with this first point.
-fn push_from(items: &mut Vec<Statement>, points: u32, a: u32) -> Result<(), NoMemory>
-    requires { a < points }
-    ensures { OnOk result (items.new.items ≡ items.old.items
-        ++ map (λ t. Concyclic (pt a) t.0 t.1 t.2) (triples (points_behind (a + 1) points))) }
-{
-    for b in a + 1..points {
-        push_behind(items, points, a, b)?;
+impl Quadruples {
+    /// All quadruples of these points.
+    pub fn of(points: PointRange) -> Quadruples
+        ensures { quadruples_left result ≡ quadruples (points_left points) }
+    {
+        Quadruples {
+            first: PointId(0),
+            others: Triples::of(PointRange::none()),
+            later: points,
+        }
     }
-    Ok(())
-}
 
-/// Those with these first two points.
-fn push_behind(items: &mut Vec<Statement>, points: u32, a: u32, b: u32) -> Result<(), NoMemory>
-    requires { b < points }
-    ensures { OnOk result (items.new.items ≡ items.old.items
-        ++ map (λ p. Concyclic (pt a) (pt b) p.0 p.1) (pairs (points_behind (b + 1) points))) }
-{
-    for c in b + 1..points {
-        push_last(items, points, (a, b, c))?;
+    /// The next quadruple.
+    pub fn next(&mut self) -> Option<(PointId, PointId, PointId, PointId)>
+        ensures { YieldsFirst quadruples_left self.old result self.new }
+    {
+        if let Some((b, c, d)) = self.others.next() {
+            return Some((self.first, b, c, d));
+        }
+        self.first = self.later.next()?;
+        self.others = Triples::of(self.later);
+        let (b, c, d) = self.others.next()?;
+        Some((self.first, b, c, d))
     }
-    Ok(())
-}
-
-/// Those with these first three points.
-fn push_last(
-    items: &mut Vec<Statement>,
-    points: u32,
-    first: (u32, u32, u32),
-) -> Result<(), NoMemory>
-    requires { first.2 < points }
-    ensures { OnOk result (items.new.items ≡ items.old.items
-        ++ map (λ d. Concyclic (pt first.0) (pt first.1) (pt first.2) d)
-        (points_behind (first.2 + 1) points)) }
-{
-    let (a, b, c) = first;
-    for d in c + 1..points {
-        items.push(Statement::Concyclic {
-            a: PointId(a),
-            b: PointId(b),
-            c: PointId(c),
-            d: PointId(d),
-        })?;
-    }
-    Ok(())
 }

@@ -9,7 +9,7 @@ use crate::figure::Figure;
 use crate::found_lines::{put_candidate, put_counts, put_impossible};
 use crate::found_text::FoundText;
 use geo_base::{Sink, SureSink};
-use geo_program::{Program, Statement};
+use geo_program::{Printer, Program, Statement};
 use log_maker::ProveError;
 use std::alloc::Global;
 
@@ -71,14 +71,16 @@ impl Search {
         &mut self,
         alloc: Global,
         program: &Program,
+        printer: &Printer,
         figure: &mut Figure,
         statement: Statement,
         sink: &mut K,
     ) -> Result<(), DiscoverError>
         requires candidate { IsCandidate (source_of program.now) statement }
         requires short { length (program_text program.now) ≤ 67108864 }
+        requires names { printer.now.names ≡ program.now.names }
+        requires terms { printer.now.terms.now ≡ program.now.terms }
         requires figure { IsFigureOf (source_of program.now) figure.old }
-        requires few { self.old.examined + 1 < 2 ^ 64 }
         ensures ok { OnOk result (Examines (source_of program.now) figure.old.steps
             (statement ∷ [])
             (progress self.old (K.held sink.old)) (progress self.new (K.held sink.new))) }
@@ -91,10 +93,18 @@ impl Search {
         ensures heard { ¬ IsErrOf result DiscoverError.WriteFault
             → K.faults sink.new ≡ K.faults sink.old }
     {
-        let judgement = judge(alloc, program, figure, statement)?;
+        // More candidates than a number can tell are answered by want of memory.
+        if self.examined == u64::MAX {
+            return Err(DiscoverError::NoMemory);
+        }
+        let judgement = judge(alloc, program, printer, figure, statement)?;
         match judgement {
-            Judgement::Relation(log) => self.add_relation(alloc, program, statement, &log, sink),
-            Judgement::Open(error) => self.add_open(alloc, program, statement, error, sink),
+            Judgement::Relation(log) => {
+                self.add_relation(alloc, program, printer, statement, &log, sink)
+            }
+            Judgement::Open(error) => {
+                self.add_open(alloc, program, printer, statement, error, sink)
+            }
             Judgement::Fails => self.add_nothing(),
             Judgement::Impossible(k) => self.add_impossible(alloc, k, sink),
         }
@@ -105,11 +115,14 @@ impl Search {
         &mut self,
         alloc: Global,
         program: &Program,
+        printer: &Printer,
         statement: Statement,
         log: &SureSink,
         sink: &mut K,
     ) -> Result<(), DiscoverError>
         requires candidate { IsCandidate (source_of program.now) statement }
+        requires names { printer.now.names ≡ program.now.names }
+        requires terms { printer.now.terms.now ≡ program.now.terms }
         requires few { self.old.examined + 1 < 2 ^ 64 }
         ensures ok { OnOk result ((lines : List Line) → log.now ≡ log_text lines
             → AllByRecursion HasNoLineFeed (map line_text lines)
@@ -131,6 +144,7 @@ impl Search {
             alloc,
             &mut self.text,
             program,
+            printer,
             b"relation ",
             statement,
             sink,
@@ -146,11 +160,14 @@ impl Search {
         &mut self,
         alloc: Global,
         program: &Program,
+        printer: &Printer,
         statement: Statement,
         error: ProveError,
         sink: &mut K,
     ) -> Result<(), DiscoverError>
         requires candidate { IsCandidate (source_of program.now) statement }
+        requires names { printer.now.names ≡ program.now.names }
+        requires terms { printer.now.terms.now ≡ program.now.terms }
         requires few { self.old.examined + 1 < 2 ^ 64 }
         ensures ok { OnOk result ((lines : List Line) → Adds open_still
             (candidate_lines open_still (candidate_text (source_of program.now) statement) lines)
@@ -164,7 +181,15 @@ impl Search {
         ensures heard { ¬ IsErrOf result DiscoverError.WriteFault
             → K.faults sink.new ≡ K.faults sink.old }
     {
-        put_candidate(alloc, &mut self.text, program, b"open ", statement, sink)?;
+        put_candidate(
+            alloc,
+            &mut self.text,
+            program,
+            printer,
+            b"open ",
+            statement,
+            sink,
+        )?;
         self.examined += 1;
         self.open_ones += 1;
         if self.first_open.is_none() {

@@ -26,6 +26,17 @@ pub(crate) fn bytes_with(bytes: u64, line: &[u8]) -> Result<u64, DiscoverError>
     Ok(bytes + count)
 }
 
+/// The sum of two lengths, where it is within the limit.
+pub(crate) fn sum_within(a: u64, b: u64) -> Option<u64>
+    ensures sum { IfSome result (λ n. n ≡ a + b) }
+    ensures fits { IfSome result (λ n. n ≤ 67108864) }
+{
+    if a > TEXT_LIMIT || b > TEXT_LIMIT - a {
+        return None;
+    }
+    Some(a + b)
+}
+
 /// Writes a text.
 pub(crate) fn write_text<K: Sink>(sink: &mut K, text: &[u8]) -> Result<(), DiscoverError>
     ensures ok { OnOk result (Grows (K.held sink.old) text.now (K.held sink.new)) }

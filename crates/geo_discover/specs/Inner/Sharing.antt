@@ -1,7 +1,7 @@
 -- What all candidates of a search have in common, and what the log of one is put together from.
-use Rattle.std.specs.Prelude.{◌≡◌, ◌≢◌, ◌⊎◌, ℕ, suc, ◌+◌, ◌<◌, ◌≤◌, ◌^◌, Some, List, [], ◌∷◌, length, map}
+use Rattle.std.specs.Prelude.{◌≡◌, ◌≢◌, ◌⊎◌, All, ℕ, suc, ◌+◌, ◌<◌, ◌≤◌, ◌^◌, Some, IfSome, List, [], ◌∷◌, length, map}
 use Rattle.elim_apply.specs.Kept.{AreKnownRows}
-use Rattle.geo_conditions.specs.Lists.{IsProblem}
+use Rattle.geo_conditions.specs.Lists.{IsProblem, goal_item, item_form}
 use Rattle.geo_conditions.specs.Problems.{form_of_problem}
 use Rattle.geo_lowering.specs.declared.version.Version.TheVariants.{Two}
 use Rattle.geo_logs.specs.Ends.{stops, text_length}
@@ -31,8 +31,10 @@ use Rattle.log_maker.specs.Written.{State}
 use Rattle.geo_discover.specs.declared.examining.Judgement.{Judgement}
 use Rattle.geo_discover.specs.declared.examining.Judgement.TheVariants as judged
 use Rattle.geo_discover.specs.declared.figure.Figure.{Figure}
+use Rattle.geo_discover.specs.declared.goal.Goal.{Goal}
 use Rattle.geo_discover.specs.declared.figure.Worked.{Worked}
 use Rattle.geo_discover.specs.declared.figure.Worked.TheVariants.{Met, Stopped, Unshared}
+use Rattle.geo_discover.specs.FoundTexts.{candidate_text}
 use Rattle.geo_discover.specs.Inner.Searching.{IsCandidate, judgement_by}
 
 -- CONDITIONS
@@ -80,6 +82,14 @@ AreWorked c conditions steps before known ends (Stopped error bytes) =
 AreWorked c conditions steps before known ends Unshared = Unit {0}
 
 -- THE FIGURE
+-- the lines of a log that come before its chains
+abbrev pub program_lines : Source → List Line
+program_lines p = Header 2 ∷ map ProgramLine (source_lines p)
+
+-- with each candidate they have so many bytes at most, beside its text
+abbrev pub IsFrontOf : Source → ℕ → Type 0
+IsFrontOf p bytes = (s : Statement) → text_length (program_lines (with_statement p s)) ≤ bytes + length (candidate_text p s)
+
 -- the figure is that of the candidates of the program: its lowered form and conditions with one of them, which are those with each
 pub record IsFigureOf (p : Source) (figure : Figure) : Type 0 where
   pub small : figure.steps < 2 ^ 127
@@ -91,11 +101,14 @@ pub record IsFigureOf (p : Source) (figure : Figure) : Type 0 where
   pub worked :
       AreWorked figure.problem.steps (items_of figure.problem.steps.nodes figure.problem.conditions) figure.steps (length p.commands + 2)
       figure.findings.known figure.findings.ends figure.conditions
+  pub front : IfSome figure.front (IsFrontOf p)
 
 -- ONE CANDIDATE
--- the lines of a log that come before its chains
-abbrev pub program_lines : Source → List Line
-program_lines p = Header 2 ∷ map ProgramLine (source_lines p)
+-- the goal is that of the candidate, with its term in a store of its own, and its text has so many bytes
+pub record IsGoalOf (p : Source) (s : Statement) (goal : Goal) : Type 0 where
+  pub stored : All (λ item. item.term.0 < length goal.terms.nodes) goal.goals
+  pub item : map (item_form goal.terms.nodes) goal.goals ≡ goal_item Two p s ∷ []
+  pub bytes : goal.bytes ≡ length (candidate_text p s)
 
 -- what is said of a candidate whose log was written so far and goes on as this part: its verdict, or why it has none
 pub record IsSaid (c : Construction) (part : Part) (s : State) (judgement : Judgement) : Type 0 where

@@ -1,4 +1,4 @@
-use Rattle.std.proofs.Common.{sym, ◌∙◌, subst}
+use Rattle.std.proofs.Common.{sym, subst}
 use Rattle.std.specs.List.{AllByRecursion}
 use Rattle.std.proofs.lemmas.List.Elements.{recursion_from_All}
 use Rattle.std.proofs.lemmas.Result.{IfErr-weaker, IfOk-weaker}
@@ -24,7 +24,7 @@ returns-in_err-all-clause-err g c =
 pub examine_all-requires-clause-candidates : goal.examine_all-requires-clause-candidates
 examine_all-requires-clause-candidates g c =
     let p = source_of c.args.program.now in
-    subst (AllByRecursion (IsCandidate p)) (sym (c.deref.ensures.value ∙ c.in_ok-all.ensures))
+    subst (AllByRecursion (IsCandidate p)) (sym c.in_ok-all.ensures)
     (recursion_from_All (IsCandidate p) (candidates p) (candidates_are_stated p (program_well_formed c.args.program.now)))
 
 pub returns-in_err-examine_all-clause-err : goal.returns-in_err-examine_all-clause-err
@@ -40,7 +40,7 @@ returns-in_err-examine_all-clause-err g c =
     (stops_so p c.args.steps w c.requires.short (candidates_are_relations p) (candidates_are_well_formed p w) s c.new-search.ensures.examined
     c.new-search.ensures.bytes c.new-search.ensures.relations c.new-search.ensures.open_ones c.new-search.ensures.first
     held before after e
-    (subst (λ ss. BreaksSearch p c.args.steps ss s held before after e) (c.deref.ensures.value ∙ c.in_ok-all.ensures) c.in_err-examine_all.ensures.err))
+    (subst (λ ss. BreaksSearch p c.args.steps ss s held before after e) c.in_ok-all.ensures c.in_err-examine_all.ensures.err))
 
 pub returns-clause-ok : goal.returns-clause-ok
 returns-clause-ok g c =
@@ -52,7 +52,7 @@ returns-clause-ok g c =
     (λ found h. all_settled p c.args.steps w c.requires.short (candidates_are_relations p) (candidates_are_well_formed p w) s
     c.new-search.ensures.examined c.new-search.ensures.bytes c.new-search.ensures.relations c.new-search.ensures.open_ones
     c.new-search.ensures.first t
-    (subst (λ ss. Examines p c.args.steps ss s t) (c.deref.ensures.value ∙ c.in_ok-all.ensures) c.in_ok-examine_all.ensures.ok)
+    (subst (λ ss. Examines p c.args.steps ss s t) c.in_ok-all.ensures c.in_ok-examine_all.ensures.ok)
     h.2 _ _ h.0 h.1 h.3)
     c.conclude.ensures.ok
 
@@ -66,6 +66,6 @@ returns-clause-err g c =
     (λ e h. unsettled_so p c.args.steps w c.requires.short (candidates_are_relations p) (candidates_are_well_formed p w) s
     c.new-search.ensures.examined c.new-search.ensures.bytes c.new-search.ensures.relations c.new-search.ensures.open_ones
     c.new-search.ensures.first t
-    (subst (λ ss. Examines p c.args.steps ss s t) (c.deref.ensures.value ∙ c.in_ok-all.ensures) c.in_ok-examine_all.ensures.ok)
+    (subst (λ ss. Examines p c.args.steps ss s t) c.in_ok-all.ensures c.in_ok-examine_all.ensures.ok)
     _ _ _ _ e c.examine_all.ensures.faults h)
     c.conclude.ensures.err

@@ -17,8 +17,8 @@ use Rattle.geo_discover.proofs.ConditionsShared.{figure_kept}
 use Rattle.geo_discover.proofs.Sharing.{goal_ready, goal_writable, past_conditions, said_judged, shared_about, stopped_judged}
 use Rattle.geo_discover.proofs.examining.judge_behind.Goals as goal
 
-pub judge_goal-requires-clause-ready : goal.judge_goal-requires-clause-ready
-judge_goal-requires-clause-ready c =
+pub judge_written-requires-clause-ready : goal.judge_written-requires-clause-ready
+judge_written-requires-clause-ready c =
     let p = source_of c.args.program.now in
     let s = c.args.statement in
     let f = c.args.figure.now in
@@ -26,14 +26,14 @@ judge_goal-requires-clause-ready c =
     let k = f.problem.steps in
     let xs = items_of k.nodes f.problem.conditions in
     let w = candidate_formed p s (program_well_formed c.args.program.now) c.requires.candidate in
-    let goal = c.in_ok-goal-in-Ok.goal in
+    let goal = c.args.goal.now in
     let ys = items_of goal.terms.nodes goal.goals in
     let own = shared_about p h.first s (form_of_problem f.problem) f.problem.conditions f.problem.goals h.candidate c.requires.candidate
-    h.problem ys (ap (λ (is : List ItemForm). map log_item is) c.in_ok-goal-in-Ok.ensures.item) in
-    goal_ready (with_statement p s) k xs goal.terms.nodes goal.goals w own c.in_ok-goal-in-Ok.ensures.stored
+    h.problem ys (ap (λ (is : List ItemForm). map log_item is) c.requires.goal.item) in
+    goal_ready (with_statement p s) k xs goal.terms.nodes goal.goals w own c.requires.goal.stored
 
-pub judge_goal-requires-clause-writable : goal.judge_goal-requires-clause-writable
-judge_goal-requires-clause-writable c =
+pub judge_written-requires-clause-writable : goal.judge_written-requires-clause-writable
+judge_written-requires-clause-writable c =
     let p = source_of c.args.program.now in
     let s = c.args.statement in
     let f = c.args.figure.now in
@@ -41,10 +41,10 @@ judge_goal-requires-clause-writable c =
     let k = f.problem.steps in
     let xs = items_of k.nodes f.problem.conditions in
     let w = candidate_formed p s (program_well_formed c.args.program.now) c.requires.candidate in
-    let goal = c.in_ok-goal-in-Ok.goal in
+    let goal = c.args.goal.now in
     let ys = items_of goal.terms.nodes goal.goals in
     let own = shared_about p h.first s (form_of_problem f.problem) f.problem.conditions f.problem.goals h.candidate c.requires.candidate
-    h.problem ys (ap (λ (is : List ItemForm). map log_item is) c.in_ok-goal-in-Ok.ensures.item) in
+    h.problem ys (ap (λ (is : List ItemForm). map log_item is) c.requires.goal.item) in
     let told = subst (λ (x : Worked). AreWorked k xs f.steps (length p.commands + 2) f.findings.known f.findings.ends x) c.in-Met.is h.worked in
     let r = first_state (Some []) 0 in
     let u = state c.write_again.new.self (Some c.write_again.new.sink) 0 in
@@ -63,10 +63,10 @@ returns-in_ok-judgement-in-Ok-clause-judged c =
     let k = f.problem.steps in
     let xs = items_of k.nodes f.problem.conditions in
     let w = candidate_formed p s (program_well_formed c.args.program.now) c.requires.candidate in
-    let goal = c.in_ok-goal-in-Ok.goal in
+    let goal = c.args.goal.now in
     let ys = items_of goal.terms.nodes goal.goals in
     let own = shared_about p h.first s (form_of_problem f.problem) f.problem.conditions f.problem.goals h.candidate c.requires.candidate
-    h.problem ys (ap (λ (is : List ItemForm). map log_item is) c.in_ok-goal-in-Ok.ensures.item) in
+    h.problem ys (ap (λ (is : List ItemForm). map log_item is) c.requires.goal.item) in
     let told = subst (λ (x : Worked). AreWorked k xs f.steps (length p.commands + 2) f.findings.known f.findings.ends x) c.in-Met.is h.worked in
     let r = first_state (Some []) 0 in
     let u = state c.write_again.new.self (Some c.write_again.new.sink) 0 in
@@ -79,8 +79,8 @@ returns-in_ok-judgement-in-Ok-clause-judged c =
 
 pub returns-in_ok-judgement-in-Ok-clause-figure : goal.returns-in_ok-judgement-in-Ok-clause-figure
 returns-in_ok-judgement-in-Ok-clause-figure c =
-    figure_kept (source_of c.args.program.now) c.args.figure.now c.judge_goal.new.numbers c.judge_goal.new.findings c.requires.figure
-    c.judge_goal.ensures.known c.judge_goal.ensures.ends c.judge_goal.ensures.numbers
+    figure_kept (source_of c.args.program.now) c.args.figure.now c.judge_written.new.numbers c.judge_written.new.findings c.requires.figure
+    c.judge_written.ensures.known c.judge_written.ensures.ends c.judge_written.ensures.numbers
 
 pub returns-in-Stopped-clause-judged : goal.returns-in-Stopped-clause-judged
 returns-in-Stopped-clause-judged c =

@@ -7,6 +7,9 @@ use Rattle.geo_discover.proofs.Putting.{if_err, on_ok}
 use Rattle.geo_discover.proofs.SearchSteps.{none_broken}
 use Rattle.geo_discover.proofs.search.Search.examine.Goals as goal
 
+pub returns-then-self-clause-err : goal.returns-then-self-clause-err
+returns-then-self-clause-err g c = none_broken _ _ _ _ _ _ c.args.self.now.text.within
+
 pub returns-in_err-judgement-clause-err : goal.returns-in_err-judgement-clause-err
 returns-in_err-judgement-clause-err g c =
     if_err _ _ _ c.from_residual.ensures.1 (none_broken _ _ _ _ _ _ c.args.self.now.text.within)
