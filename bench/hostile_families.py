@@ -4,9 +4,10 @@
 Numbers of steps with many nodes, negations in a row, many conditions over one step, products of areas that are 0, many divisors, many
 assumptions, many tries of a sample, high powers; logs with many cuts, which are free, for `check`; and what a stranger may pick so that it
 is hard to look up: integers with one hash, long names that differ at their ends, many names and many variables of a log for `text`, many
-names that a citation gives; and many lines for each candidate of `discover`.
+names that a citation gives; and searches for relations, of free points alone, and beside many lines.
 """
 import itertools
+import math
 
 PROVED, FALSE, TOO_LARGE, SPENT, REJECTED, DONE = 0, 1, 6, 7, 11, 13
 MULTIPLIER = 0x9E3779B97F4A7C15  # of the hasher in the toolchain's library: integers with it in their upper half have one hash
@@ -203,9 +204,19 @@ def assumed_pairs(size):
     return program([*free(129), *(f"assume different P{i} P{j}" for i, j in pairs(129)[:size])], "identical P0 P0")
 
 
-def lines(size):
-    """Six free points, and as many lines, which make no candidate more."""
-    return program([*free(6), *(f"line l{k} P0 P1" for k in range(size))], "identical P0 P0")
+def candidates(count):
+    """How many candidates of a search so many points have."""
+    return math.comb(count, 3) + 4 * math.comb(count, 4) + 2 * math.comb(math.comb(count, 2), 2)
+
+
+def found(size):
+    """As many free points, of whose candidates none is a relation."""
+    return program(free(size), "identical P0 P0")
+
+
+def beside_lines(size):
+    """The same, and lines, which make no candidate, four times as many as there are candidates."""
+    return program([*free(size), *(f"line l{k} P0 P1" for k in range(4 * candidates(size)))], "identical P0 P0")
 
 
 # Of each family the word, the status, and for each size its charge, and fewer steps with the line at which the run stops with them. Where
@@ -231,5 +242,6 @@ FAMILIES = [
     (names, "text", DONE, {25000: (3, None, None), 50000: (3, None, None), 100000: (3, None, None)}),
     (areas, "text", DONE, {2500: (135676, None, None), 5000: (277266, None, None), 10000: (561918, None, None)}),
     (cited, "cite", DONE, {10000: (3, None, None), 20000: (3, None, None), 40000: (3, None, None)}),
-    (lines, "discover", SPENT, {500: (None, None, None), 1000: (None, None, None), 2000: (None, None, None)}),
+    (found, "discover", DONE, {8: (912, None, None), 12: (1296, None, None), 16: (1680, None, None)}),
+    (beside_lines, "discover", DONE, {6: (846, None, None), 8: (1042, None, None), 11: (1336, None, None)}),
 ]
