@@ -1,7 +1,7 @@
 % The Brocard circle (Henri Brocard, 1881): the circle over the segment from the circumcenter O to the Lemoine point K
 % passes through the Brocard points; here the angle at the first one, Q. K has the squares of BC, CA and AB as
-% weights, and Q their products AB BC, BC CA and CA AB. D is the foot of the altitude from A, DA and DC are a and c
-% times DB, so the squares of BC, CA and AB are (1-c)^2, a^2+c^2 and 1+a^2.
+% weights, and Q the products of the squares of BC and CA, AB and BC, CA and AB. D is the foot of the altitude from A,
+% DA and DC are a and c times DB, so the squares of BC, CA and AB are (1-c)^2, a^2+c^2 and 1+a^2.
 point D
 point B
 param a

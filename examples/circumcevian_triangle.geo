@@ -1,6 +1,7 @@
-% The lines from the corners of a triangle through a point P meet its circumcircle again at A1, B1, C1. The triangle
-% A1B1C1 is similar to that of the feet X, Y, Z of P on the sides (classical): A1B1 is to A1C1 as XY to XZ, here in
-% squares. The figure begins with P and the triangle; PA PA1 = PB PB1 = PC PC1, with PB1 = p PB.
+% A1, B1 and C1 are on the lines from a point P to the corners of a triangle, with PA PA1 = PB PB1 = PC PC1. The
+% triangle A1B1C1 is similar to that of the feet X, Y, Z of P on the sides (classical): A1B1 is to A1C1 as XY to XZ,
+% here in squares. Such are the inverses of the corners in a circle around P, and, where the product is the power of P,
+% the points where the lines meet the circumcircle again. PB1 = p PB.
 point P
 point A
 point B

@@ -1,10 +1,10 @@
 % The Miquel point of three tangents of a parabola and a line (Jakob Steiner, 1828). F is the focus and E the vertex.
 % With X_s for the point X + s J FX, where J is a quarter-turn, the tangents with the numbers s and t meet at E_st,
 % the point (E_s)_t. The line has the points where those with the numbers n + s and n + k/s meet. The three tangents
-% have the numbers n + x, n + y, n + z. W is E_st with all three, and M has the place (k^2 - k d J) / (d^2 + k^2) over
-% FW, for d = xyz + kn. Here: M is on the circle of the first two tangents and the line, whose centre is O (see
-% circle_of_two_tangents_and_a_line.geo), for OM = OB; so it is on the circle of each two, since x, y and z can be
-% exchanged.
+% have the numbers n + x, n + y, n + z. W is ((E_s)_t)_u for their numbers s, t, u, and M has the place
+% (k^2 - k d J) / (d^2 + k^2) over FW, for d = xyz + kn. Here: M is on the circle of the first two tangents and the
+% line, whose centre is O (see circle_of_two_tangents_and_a_line.geo), for OM = OB; so it is on the circle of each two,
+% since x, y and z can be exchanged.
 point F
 point E
 param n

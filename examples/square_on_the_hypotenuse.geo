@@ -1,5 +1,5 @@
-% A square stands outside on the hypotenuse AB of a right triangle. The line from C to its centre Q bisects the right
-% angle (classical): the reflection of A in CQ is on CB.
+% A square stands on the hypotenuse AB of a right triangle. The line from C to its centre Q bisects the right angle,
+% where the square stands outside, and else the angle beside it (classical): the reflection of A in CQ is on CB.
 point C
 point A
 param r
