@@ -1,30 +1,21 @@
 -- Names by place.
-use Rattle.std.proofs.Common.{◌≡◌, ℕ, zero, suc, ◌+◌, ◌<◌, ◌≤◌, false, cond, eqb, eq-eqb, Option, Some, None, List, [], ◌∷◌, ◌++◌, length}
-use Rattle.std.proofs.Common.{get_or, refl, sym, ◌∙◌, ap, arith, take, add-one, inl, inr, below_more, length-append, ltb}
+use Rattle.std.proofs.Common.{◌≡◌, ◌≢◌, ◌⊎◌, ℕ, zero, suc, ◌+◌, ◌<◌, ◌≤◌, Bool, true, false, cond, eqb, eq-eqb, Option, Some, None, List, [], ◌∷◌, ◌++◌, length}
+use Rattle.std.proofs.Common.{get_or, refl, sym, ◌∙◌, ap, subst, arith, drop, take, add-one, inl, inr, below_more, length-append, ltb}
 use Rattle.std.specs.Prelude.{All, IfSome, is_some, slice_get, unwrap_or}
 use Rattle.std.specs.Borrow.{Bor}
 use Rattle.std.specs.Fmt.{decimal}
 use Rattle.std.specs.Option.{option_map}
-use Rattle.std.proofs.lemmas.Bool.{cases_lt, ltb-false, ltb-true}
+use Rattle.std.proofs.lemmas.Bool.{cases_eq, cases_lt, ltb-false, ltb-true}
 use Rattle.std.proofs.lemmas.Bool.Decides.{nat_tests}
-use Rattle.std.proofs.lemmas.List.{get_or_append_left, get_or_past, get_or_push}
+use Rattle.std.proofs.lemmas.List.{drop_all, get_or_append_left, get_or_past, get_or_push}
 use Rattle.std.proofs.lemmas.Option.{slice_get_past, slice_get_read, unwrap_or-slice_get}
 use Rattle.proof_log.specs.Writable.{HasNoLineFeed}
+use Rattle.proof_printer.specs.Inner.Names.{AreFirstPlaces}
 use Rattle.proof_printer.specs.Naming.{name_at, name_or_number}
 
 -- numbers that differ
 eqb-other : (m n : ℕ) → (m ≡ n → ⊥) → eqb m n ≡ false
 eqb-other m n h = grind (arith, nat_tests)
-
--- the first place that is the number has the name
-pub name_at-first : (places : List ℕ) (names : List (List ℕ)) (n k : ℕ) → ((j : ℕ) → j < k → get_or places j 0 ≡ n → ⊥) → k < length places → get_or places k 0 ≡ n
-    → name_at places names n ≡ slice_get names k
-name_at-first [] names n k others within here = absurd (omega (arith, within))
-name_at-first (p ∷ places) [] n k others within here = sym (slice_get_past {X = List ℕ} [] k (omega arith))
-name_at-first (p ∷ places) (name ∷ names) n zero others within here = ap (λ b. cond b (Some name) (name_at places names n)) (eq-eqb p n here)
-name_at-first (p ∷ places) (name ∷ names) n (suc k) others within here =
-    ap (λ b. cond b (Some name) (name_at places names n)) (eqb-other p n (others 0 (omega arith)))
-    ∙ name_at-first places names n k (λ j lt. others (suc j) (omega arith)) (omega arith) here
 
 -- a number that is no place has no name
 pub name_at-none : (places : List ℕ) (names : List (List ℕ)) (n : ℕ) → ((j : ℕ) → j < length places → get_or places j 0 ≡ n → ⊥) → name_at places names n ≡ None
@@ -37,6 +28,62 @@ name_at-none (p ∷ places) (name ∷ names) n others =
 -- so has a number past all places
 pub name_at-past : (places : List ℕ) (names : List (List ℕ)) (n m : ℕ) → All (λ place. place < m) places → m ≤ n → name_at places names n ≡ None
 name_at-past places names n m below past = name_at-none places names n (λ j lt is. omega (arith, below j 0 lt))
+
+-- FIRST PLACES
+-- where there are no names
+no_name : (places : List ℕ) (n : ℕ) → name_at places [] n ≡ None
+no_name [] n = refl
+no_name (p ∷ places) n = refl
+
+none_both : (b : Bool) (o r : Option (List ℕ)) → o ≡ None → r ≡ None → cond b o r ≡ None
+none_both true o r h i = h
+none_both false o r h i = i
+
+-- the name of a number among those from a place on
+name_at-front : (places : List ℕ) (texts : List (List ℕ)) (k n : ℕ) → k < length places
+    → name_at (drop k places) (drop k texts) n ≡ cond (eqb (get_or places k 0) n) (slice_get texts k) (name_at (drop (suc k) places) (drop (suc k) texts) n)
+name_at-front [] texts k n within = absurd (omega (arith, within))
+name_at-front (p ∷ places) [] zero n within =
+    sym (none_both (eqb p n) (slice_get [] 0) (name_at places [] n) (slice_get_past {X = List ℕ} [] 0 (omega arith)) (no_name places n))
+name_at-front (p ∷ places) [] (suc k) n within =
+    no_name (drop k places) n
+    ∙ sym (none_both (eqb (get_or places k 0) n) (slice_get [] (suc k)) (name_at (drop (suc k) places) [] n) (slice_get_past {X = List ℕ} [] (suc k) (omega arith)) (no_name (drop (suc k) places) n))
+name_at-front (p ∷ places) (t ∷ texts) zero n within = refl
+name_at-front (p ∷ places) (t ∷ texts) (suc k) n within = name_at-front places texts k n (omega (arith, within))
+
+-- of each number where it first stands from the k-th place on
+pub record AreFirstFrom (places : List ℕ) (none k : ℕ) (firsts : List ℕ) : Type 0 where
+  pub names : (texts : List (List ℕ)) → length texts ≤ none → (n : ℕ) → n < length firsts → slice_get texts (get_or firsts n 0) ≡ name_at (drop k places) (drop k texts) n
+
+-- past the last place each stands nowhere
+pub none_placed : (places : List ℕ) (none k : ℕ) (firsts : List ℕ) → length places ≤ k → ((n : ℕ) → n < length firsts → get_or firsts n 0 ≡ none) → AreFirstFrom places none k firsts
+none_placed places none k firsts past same = record {
+  names = λ texts small n below.
+      ap (slice_get texts) (same n below) ∙ slice_get_past {X = List ℕ} texts none small ∙ sym (ap (λ (ps : List ℕ). name_at ps (drop k texts) n) (drop_all k places past));
+}
+
+-- one more place in front
+pub placed : (places : List ℕ) (none k n : ℕ) (old new : List ℕ) → k < length places → n ≡ k + 1 → length new ≡ length old → get_or new (get_or places k 0) 0 ≡ k
+    → ((i : ℕ) → i ≢ get_or places k 0 → get_or new i 0 ≡ get_or old i 0) → AreFirstFrom places none n old → AreFirstFrom places none k new
+placed places none k n old new within next whole here others h = record {
+  names = λ texts small m below.
+      by texts small m (omega (arith, below, whole)) (cases_eq m (get_or places k 0)) ∙ sym (name_at-front places texts k m within);
+}
+  where
+    by : (texts : List (List ℕ)) → length texts ≤ none → (m : ℕ) → m < length old → (m ≡ get_or places k 0) ⊎ (m ≡ get_or places k 0 → ⊥)
+        → slice_get texts (get_or new m 0) ≡ cond (eqb (get_or places k 0) m) (slice_get texts k) (name_at (drop (suc k) places) (drop (suc k) texts) m)
+    by texts small m below (inl same) =
+        ap (λ (i : ℕ). slice_get texts (get_or new i 0)) same ∙ ap (slice_get texts) here
+        ∙ sym (ap (λ (b : Bool). cond b (slice_get texts k) (name_at (drop (suc k) places) (drop (suc k) texts) m)) (eq-eqb (get_or places k 0) m (sym same)))
+    by texts small m below (inr other) =
+        ap (slice_get texts) (others m other) ∙ h.names texts small m below ∙ ap (λ (i : ℕ). name_at (drop i places) (drop i texts) m) (next ∙ add-one k)
+        ∙ sym (ap (λ (b : Bool). cond b (slice_get texts k) (name_at (drop (suc k) places) (drop (suc k) texts) m)) (eqb-other (get_or places k 0) m (λ e. other (sym e))))
+
+-- from the first place on they are the first of all
+pub first_of_all : (places : List ℕ) (none k : ℕ) (firsts : List ℕ) → k ≡ 0 → AreFirstFrom places none k firsts → AreFirstPlaces places none firsts
+first_of_all places none k firsts e h =
+    let all : AreFirstFrom places none 0 firsts = subst (λ (i : ℕ). AreFirstFrom places none i firsts) e h in
+    record { names = λ texts small n below. all.names texts small n below }
 
 -- LINE FEEDS
 -- one more byte that is none

@@ -1,6 +1,7 @@
 //! The variables that are met in the text of a polynomial, each with its name.
 
 ghost use Rattle.std.specs.Prelude.{◌≡◌, [], ◌∷◌, ◌++◌, Contains, IfOk, IfSome, OnOk};
+ghost use Rattle.std.specs.BTreeMap.{keys};
 ghost use Rattle.std.specs.BTreeSet.{insert_key};
 ghost use Rattle.geo_poly.specs.Variables.{var_cmp};
 ghost use Rattle.proof_printer.specs.Inner.Names.{naming_in};
@@ -12,7 +13,7 @@ use geo_base::Text;
 use geo_points::{NoMemory, PointId};
 use geo_poly::Var;
 use std::alloc::Global;
-use std::collections::BTreeSet;
+use std::collections::BTreeMap;
 
 /// How many guesses are kept.
 const GUESSES: usize = 512;
@@ -29,9 +30,9 @@ pub(crate) struct Named {
 /// The variables that were met.
 #[derive(Drop)]
 pub(crate) struct Met {
-    /// In order, each once.
-    pub variables: BTreeSet<Var>,
-    /// Those that have a name.
+    /// Each once, in order, with its place among the names.
+    pub places: BTreeMap<Var, usize>,
+    /// Their names, in the order in which they were met.
     pub names: Vec<Named>,
     /// Where a variable may stand among the names.
     pub guesses: Vec<usize>,
@@ -40,13 +41,13 @@ pub(crate) struct Met {
 impl Met {
     /// None yet.
     pub fn new(alloc: Global) -> Result<Met, NoMemory>
-        ensures none { IfOk result (λ met. met.variables.keys ≡ []) }
+        ensures none { IfOk result (λ met. keys met.places ≡ []) }
         ensures met { (n : Naming) → IfOk result (AreMet n) }
     {
         let mut guesses = Vec::new(alloc);
         guesses.resize(GUESSES, 0)?;
         Ok(Met {
-            variables: BTreeSet::new(alloc),
+            places: BTreeMap::new(alloc),
             names: Vec::new(alloc),
             guesses,
         })
@@ -59,7 +60,21 @@ impl Met {
     {
         match self.guessed(guess) {
             Some(named) if named.variable == variable => Some(named),
-            _ => find_name(&self.names, variable),
+            _ => self.find(variable),
+        }
+    }
+
+    /// The name of the variable by its place, where it is found.
+    fn find(&self, variable: Var) -> Option<&Named>
+        ensures is { IfSome result (λ named. named.now.variable ≡ variable) }
+        ensures found { IfSome result (λ named. Contains self.now.names.items named.now) }
+    {
+        let place = *self.places.get(&variable)?;
+        let named = self.names.get(place)?;
+        if named.variable == variable {
+            Some(named)
+        } else {
+            None
         }
     }
 
@@ -67,9 +82,11 @@ impl Met {
     fn add(&mut self, guess: usize, variable: Var, name: Text) -> Result<(), NoMemory>
         ensures names { OnOk result (self.new.names.items
             ≡ self.old.names.items ++ record { variable = variable; name = name } ∷ []) }
-        ensures variables { self.new.variables ≡ self.old.variables }
+        ensures keys { OnOk result
+            (keys self.new.places ≡ insert_key var_cmp (keys self.old.places) variable) }
     {
         let place = self.names.len();
+        self.places.insert(variable, place)?;
         self.names.push(Named { variable, name })?;
         self.keep(guess, place);
         Ok(())
@@ -78,7 +95,7 @@ impl Met {
     /// Keeps the place.
     fn keep(&mut self, guess: usize, place: usize)
         ensures names { self.new.names ≡ self.old.names }
-        ensures variables { self.new.variables ≡ self.old.variables }
+        ensures places { self.new.places ≡ self.old.places }
     {
         if let Some(kept) = self.guesses.get_mut(guess) {
             *kept = place;
@@ -106,8 +123,8 @@ impl Namer {
         requires { AreMet (naming_in self.now) met.old }
         ensures text { OnOk result (out.new.items
             ≡ out.old.items ++ variable_text (naming_in self.now) variable) }
-        ensures keys { OnOk result (met.new.variables.keys
-            ≡ insert_key var_cmp met.old.variables.keys variable) }
+        ensures keys { OnOk result
+            (keys met.new.places ≡ insert_key var_cmp (keys met.old.places) variable) }
         ensures met { OnOk result (AreMet (naming_in self.now) met.new) }
     {
         let guess = guess_of(variable);
@@ -125,8 +142,8 @@ impl Namer {
         requires { AreMet (naming_in self.now) met.now }
         ensures name { IfSome result
             (λ named. named.now.name ≡ variable_text (naming_in self.now) variable) }
-        ensures keys { IfSome result (λ _. met.now.variables.keys
-            ≡ insert_key var_cmp met.now.variables.keys variable) }
+        ensures keys { IfSome result (λ _.
+            keys met.now.places ≡ insert_key var_cmp (keys met.now.places) variable) }
     {
         met.name(variable, guess)
     }
@@ -141,11 +158,10 @@ impl Namer {
     ) -> Result<(), NoMemory>
         requires met { AreMet (naming_in self.now) met.old }
         requires name { name ≡ variable_text (naming_in self.now) variable }
-        ensures keys { OnOk result (met.new.variables.keys
-            ≡ insert_key var_cmp met.old.variables.keys variable) }
+        ensures keys { OnOk result
+            (keys met.new.places ≡ insert_key var_cmp (keys met.old.places) variable) }
         ensures met { OnOk result (AreMet (naming_in self.now) met.new) }
     {
-        met.variables.insert(variable)?;
         met.add(guess, variable, name)
     }
 
@@ -157,19 +173,6 @@ impl Namer {
         self.push_variable(alloc, &mut bytes, variable)?;
         Ok(Text { bytes })
     }
-}
-
-/// The name of the variable among these.
-fn find_name(names: &[Named], variable: Var) -> Option<&Named>
-    ensures is { IfSome result (λ named. named.now.variable ≡ variable) }
-    ensures found { IfSome result (λ named. Contains names.now named.now) }
-{
-    for named in names {
-        if named.variable == variable {
-            return Some(named);
-        }
-    }
-    None
 }
 
 /// Where the place of a variable is kept.

@@ -1,6 +1,7 @@
 //! Polynomials by their text in a log, with other names.
 
 ghost use Rattle.std.specs.Prelude.{◌≡◌, ◌≤◌, ◌↔◌, ◌++◌, [], IfOk, IsTrue, OnOk, length};
+ghost use Rattle.std.specs.BTreeMap.{keys};
 ghost use Rattle.geo_poly.specs.PolynomialVariables.{variables_of};
 ghost use Rattle.geo_poly.specs.Polynomials.{Summands};
 ghost use Rattle.proof_log.specs.Lines.{variable_name};
@@ -54,7 +55,7 @@ impl Namer {
     {
         let mut met = Met::new(alloc)?;
         self.push_terms(alloc, out, &mut met, text)?;
-        let items = met.variables.into_iter().collect(alloc)?;
+        let items = met.places.into_keys().collect(alloc)?;
         Ok(Before {
             zero: is_zero(text),
             variables: Vars { items },
@@ -69,11 +70,11 @@ impl Namer {
         met: &mut Met,
         text: &[u8],
     ) -> Result<(), NoMemory>
-        requires none { met.old.variables.keys ≡ [] }
+        requires none { keys met.old.places ≡ [] }
         requires met { AreMet (naming_in self.now) met.old }
         ensures text { (q : Summands) → IsTextOf text.now q → OnOk result (out.new.items
             ≡ out.old.items ++ polynomial_text (naming_in self.now) q) }
-        ensures variables { (q : Summands) → IsTextOf text.now q → OnOk result (met.new.variables.keys ≡ variables_of q) }
+        ensures variables { (q : Summands) → IsTextOf text.now q → OnOk result (keys met.new.places ≡ variables_of q) }
     {
         let mut rest = push_plain(out, text)?;
         while let Some((variable, behind)) = read_name(rest) {

@@ -1,5 +1,6 @@
 -- The text of a polynomial of a log, as it is read: single bytes, and names of variables.
 use Rattle.std.specs.Prelude.{◌≡◌, ◌↔◌, ℕ, true, List, [], ◌∷◌, ◌++◌, All, Contains, IsTrue}
+use Rattle.std.specs.BTreeMap.{keys}
 use Rattle.std.specs.BTreeSet.{insert_key}
 use Rattle.std.specs.List.{fold}
 use Rattle.std.specs.List.Sorted.{IsStrictlySortedBy}
@@ -67,8 +68,8 @@ pub record IsTextOf (text : List ℕ) (q : Summands) : Type 0 where
 
 -- the variables that were met are in order, and each that has a name has its own
 pub record AreMet (n : Naming) (met : Met) : Type 0 where
-  pub rising : IsStrictlySortedBy var_cmp met.variables.keys
-  pub named : All (λ named. (named.name ≡ variable_text n named.variable) × Contains met.variables.keys named.variable) met.names.items
+  pub rising : IsStrictlySortedBy var_cmp (keys met.places)
+  pub named : All (λ named. (named.name ≡ variable_text n named.variable) × Contains (keys met.places) named.variable) met.names.items
 
 -- what is kept of the polynomial
 pub record IsKept (before : Before) (q : Summands) : Type 0 where

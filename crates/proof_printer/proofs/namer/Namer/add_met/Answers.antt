@@ -1,9 +1,7 @@
-use Rattle.std.proofs.Common.{rules}
-use Rattle.std.specs.Prelude.{OnOk}
 use Rattle.proof_printer.specs.Inner.Names.{naming_in}
 use Rattle.proof_printer.proofs.MetNames.{added}
 use Rattle.proof_printer.proofs.namer.Namer.add_met.Goals as goal
 
 pub returns-clause-met : goal.returns-clause-met
 returns-clause-met c =
-    added (naming_in c.args.self.now) c.args.met.now _ c.args.variable c.args.name c.add.result c.requires.met c.requires.name (search rules) (search rules)
+    added (naming_in c.args.self.now) c.args.met.now c.add.new.self c.args.variable c.args.name c.add.result c.requires.met c.requires.name c.add.ensures.keys c.add.ensures.names
