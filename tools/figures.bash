@@ -6,6 +6,7 @@
 try_figures() {
   at=''
   [ "$fresh" = yes ] && command -v python3 >/dev/null || return
+  [ "$(wc -c <"${inputs[$1]}")" -le 1048576 ] || return
   run_in_time python3 -B "$home/tools/figures.py" "$program" "${inputs[$1]}" </dev/null >"$room/at"
   [ $? -eq 1 ] || return
   cat -- "${inputs[$1]}" >>"$room/at"

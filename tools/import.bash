@@ -8,15 +8,14 @@ choices=()
 [ -z "${given[no-statement]+yes}" ] || choices+=(--no-statement)
 [ -z "${given[needed]+yes}" ] || choices+=(--needed)
 
-# may_be_foreign FILE: whether it begins as no text of ours does, or in the first megabyte a line begins with a word that is no command of
-# ours
+# may_be_foreign FILE: whether it begins as no text of ours does, or a line begins with a word that is no command of ours; what stands
+# behind the first megabyte is not read
 may_be_foreign() {
-  LC_ALL=C awk -v forms="$home/tools/forms" '
+  head -c 1048577 -- "$1" | LC_ALL=C awk -v forms="$home/tools/forms" '
     BEGIN { while ((getline line <forms) > 0) if (split(line, word, " ") && word[1] !~ /^#/) ours[word[1]] = 1 }
     NR == 1 && /^(PK|\037\213|BZh|\357\273\277)|^[ \t]*</ { found = 1; exit }
     /^[ \t]*[a-z]/ && !($1 in ours) { found = 1; exit }
-    (bytes += length + 1) > 1048576 { exit }
-    END { exit !found }' "$1"
+    END { exit !found }'
 }
 
 # bring NUMBER: where the input of that number is a figure of another tool, its program takes its place, and a line says what was read.
