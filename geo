@@ -319,7 +319,7 @@ fi
 [ ${#names[@]} -gt 0 ] || refuse "behind '$word' the name of a file is due, or - for standard input (geo $word --help)"
 
 # these words read figures of other tools too
-case $word in decide | page | discover) . "$home/tools/import.bash" ;; *) bring() { :; } ;; esac
+case $word in decide | solve | page | discover) . "$home/tools/import.bash" ;; *) bring() { :; } ;; esac
 inputs=() typed=() readable=() ended=() taken=("${steps[@]}") worst=0 fresh=yes
 for k in "${!names[@]}"; do
   status=3

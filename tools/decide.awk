@@ -1,7 +1,8 @@
 # Tells a log in a few lines: the verdict, the conditions in words, and the points of its sample:
 #   awk -f words.awk -f sample.awk -f decide.awk LOG
 # The environment has the name of the program's file; `again`, where the log was made with the most steps, since the default ones were
-# spent; `at`, the figure that was tried and at which the statement fails; `seconds`, those that are over; `ended`, the program's status.
+# spent; `at`, the figure that was tried and at which the statement fails; `seconds`, those that are over; `ended`, the program's status. An
+# answer of solve ends with `open` where no proof was found.
 # SPDX-License-Identifier: Apache-2.0
 BEGIN { name = ENVIRON["name"] }
 $1 == "condition" {
@@ -9,7 +10,10 @@ $1 == "condition" {
   condition[$2] = condition_words($0)
 }
 $1 == "goal" { goal[$2] = statement_words($0, " is not always") }
-$1 == "|" && $2 == "prove" { statement = statement_words("goal 1 " substr($0, 11), " is not always") }
+$1 == "|" && $2 == "prove" {
+  statement = statement_words("goal 1 " substr($0, 11), " is not always")
+  open = statement_words("goal 1 " substr($0, 11), " may or may not be")
+}
 { last = $0 }
 
 # the sample's points, and its other numbers
@@ -44,6 +48,8 @@ END {
     if (figure() != "") print "  counterexample " figure()
   } else if (word[1] == "verdict") {
     print name ": impossible" by ": it is never so that " condition[word[3]]
+  } else if (word[1] == "open") {
+    print name ": open: " open
   } else if (word[1] == "syntax") {
     print name ": no program"
   } else if (ENVIRON["ended"] ~ /^(8|9|10|70)$/ || ENVIRON["seconds"] == "" && (last == "too long" || last == "")) {

@@ -14,7 +14,7 @@ tell() {
   fi
   [ "$2" -ne 124 ] || over=$seconds
   name=${names[$1]} again=$again at=$at seconds=$over ended=$2 \
-    awk -f "$home/tools/words.awk" -f "$home/tools/sample.awk" -f "$home/tools/decide.awk" "$room/log"
+    awk -f "$home/tools/words.awk" -f "$home/tools/sample.awk" -f "$home/tools/decide.awk" -f "$home/tools/solve.awk" "$room/log"
 }
 
 # answer_decide NUMBER: where the steps, the sizes or the length end the work some figures are tried; where the default steps are spent

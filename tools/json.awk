@@ -1,5 +1,5 @@
 # Tells an answer of the program as a line of JSON: LC_ALL=C awk -f words.awk -f sample.awk -f json.awk ANSWER EXPLANATION
-# ANSWER is what `prove`, `check` or `fixed` wrote, EXPLANATION what geo says of a refusal, or empty. docs/verdicts.schema.json has the
+# ANSWER is what `prove`, `check` or `fixed` wrote, or an answer of solve, EXPLANATION what geo says of a refusal, or empty. docs/verdicts.schema.json has the
 # members. The environment has the name of the file, the status, and what else is known: again, at, seconds, proved.
 # SPDX-License-Identifier: Apache-2.0
 
@@ -31,7 +31,11 @@ function member(name, value) {
   return ",\"" name "\":" value
 }
 
-# of a line `condition k TEXT` or `goal k TEXT`: the text, and the same in words
+function listed(name, values) {
+  return member(name, "[" substr(values, 2) "]")
+}
+
+# of a line `condition k TEXT`, `goal k TEXT` or `besides k TEXT`: the text, and the same in words
 function statement(line, words) {
   sub(/^[a-z]+ [0-9]+ /, "", line)
   return ",{\"text\":" quoted(line) ",\"words\":" quoted(words) "}"
@@ -66,6 +70,7 @@ function end_of(word) {
   if (word[1] == "syntax") return member("verdict", "null") member("error", "{\"refusal\":" word[2] member("place", word[4]) explained() "}")
   if (word[1] == "rejected")
     return member("verdict", "null") member("rejected", "{\"line\":" word[2] member("reason", word[3]) explained() "}")
+  if (word[1] == "open") return member("verdict", "null") member("stop", "{\"why\":\"open\"}")
   if (ENVIRON["seconds"] != "") return member("verdict", "null") member("stop", "{\"why\":\"seconds\"}")
   if (word[1] == "stop")
     return member("verdict", "null") member("stop", "{\"why\":" quoted(word[2] == "spent" ? "spent" : word[4]) member("line", word[3]) "}")
@@ -79,6 +84,9 @@ FILENAME != ARGV[1] {
 }
 $1 == "condition" { conditions = conditions statement($0, condition_words($0)) }
 $1 == "goal" { goals = goals statement($0, statement_words($0, " is")) }
+$1 == "besides" { besides = besides statement($0, condition_words($0)) }
+$1 == "form" || $1 == "auxiliary" { made[$1] = made[$1] "," quoted(substr($0, length($1) + 2)) }
+$1 == "cited" { is_cited = 1 }
 # `check` writes the program first, then the conditions and the verdict
 NR == 1 { is_told = !/^(geolog|syntax|rejected|stop|fixed|too long)/ }
 is_told && !/^(condition|accepted) / { program = program $0 "\n" }
@@ -89,8 +97,9 @@ END {
   text = member("file", quoted(ENVIRON["name"])) member("status", ENVIRON["status"]) end_of(word)
   text = text member("most_steps", ENVIRON["again"] == "" ? "false" : "true") member("program_proved", ENVIRON["proved"])
   if (word[1] == "accepted") text = text member("program", quoted(program))
-  if (conditions != "" || goals != "" || word[1] ~ /^(verdict|accepted)$/) text = text member("conditions", "[" substr(conditions, 2) "]")
-  if (goals != "" || word[1] == "verdict") text = text member("goals", "[" substr(goals, 2) "]")
+  if (conditions != "" || goals != "" || word[1] ~ /^(verdict|accepted)$/) text = text listed("conditions", conditions)
+  if (goals != "" || word[1] == "verdict") text = text listed("goals", goals)
   if (read_sample()) text = text member("figure", figure())
+  if (is_cited) text = text member("cited", "{" substr(listed("form", made["form"]) listed("auxiliary", made["auxiliary"]) listed("besides", besides), 2) "}")
   print "{" substr(text, 2) "}"
 }

@@ -4,7 +4,13 @@
 
 . "$home/tools/figures.bash"
 . "$home/tools/record.bash"
-words=(prove)
+words=(prove) making=prove
+if [ -n "${given[solve]-}" ]; then
+  . "$home/tools/solve.bash"
+  making=solve
+elif [ -n "${given[tries]+yes}${given[jobs]+yes}" ]; then
+  refuse "--tries and --jobs of 'page' are for the search of --solve"
+fi
 into=${given[into]-}
 [ -z "${given[into]+yes}" ] || [ -n "$into" ] || refuse "behind --into the name of a folder is due"
 [ ${#names[@]} -eq 1 ] || [ -n "$into" ] || refuse "behind 'page' the name of one file is due; for several files: geo page FILE.. --into FOLDER"
@@ -17,30 +23,52 @@ asked() {
   answer $((${#inputs[@]} - 1))
 }
 
-# answer_page NUMBER: the page of the program of that number, or what is due for it in a list
-answer_page() {
-  local log=$room/page.$1.log text=$room/page.$1.text at='' ended
+# prove_for_page NUMBER: the log of that number, in `log`; sets `at` where a figure was tried at which the statement fails
+prove_for_page() {
+  local ended
   answer "$1" >"$log"
   ended=$?
   case $ended in 6 | 7 | 12 | 124) try_figures "$1" && ended=1 ;; esac
-  if [ "$ended" -eq 7 ] && [ ${#taken[@]} -eq 0 ]; then
-    taken=(--steps "$most")
-    answer "$1" >"$log"
-    ended=$?
-  fi
+  [ "$ended" -eq 7 ] && [ ${#taken[@]} -eq 0 ] || return "$ended"
+  taken=(--steps "$most")
+  answer "$1" >"$log"
+}
+
+# solve_for_page NUMBER: the answer of solve, in `log`; sets `at`, and `cite` and `proof` where another formulation is cited
+solve_for_page() {
+  local ended kept=$room/kept.$1
+  taken=(--steps "$most")
+  search "$1" "$room/answer" "$kept"
+  ended=$?
+  at=$(sed -n 's/^known at //p' "$room/answer")
+  grep -v '^known ' "$room/answer" >"$log"
+  for cite in "$kept"/*.cite; do
+    [ -f "$cite" ] || { cite=''; continue; }
+    proof=$log.proof
+    sed '/^with /,$d' "$cite" >"$proof"
+  done
+  return "$ended"
+}
+
+# answer_page NUMBER: the page of the program of that number, or what is due for it in a list
+answer_page() {
+  local log=$room/page.$1.log text=$room/page.$1.text at='' cite='' proof='' ended page
+  "${making}_for_page" "$1"
+  ended=$?
   : >"$text"
   case $ended in
-    0 | 1 | 2) [ -n "$at" ] || asked text "$log" >"$text" ;;
-    6 | 7 | 124) ;;
+    0 | 1 | 2) [ -n "$at" ] || asked text "${proof:-$log}" >"$text" ;;
+    6 | 7 | 18 | 124) ;;
     12) grep -q '^geolog' "$log" && echo "too long" >>"$log" || return 12 ;;
     *) return "$ended" ;;
   esac
   words=(prove)
+  page=("${typed[$1]}" "${inputs[$1]}" "$log" "$text" "$at" "$cite")
   if [ -n "$into" ]; then
-    printf '%s\0' "${typed[$1]}" "${inputs[$1]}" "$log" "$text" "$at" >>"$room/pages"
+    printf '%s\0' "${page[@]}" >>"$room/pages"
     return "$ended"
   fi
-  pages "${typed[$1]}" "${inputs[$1]}" "$log" "$text" "$at" && return "$ended"
+  pages "${page[@]}" && return "$ended"
 }
 
 # pages WORD..: the pages for these words; what is wrong is told there, and ends with a status of geo

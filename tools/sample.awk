@@ -6,6 +6,8 @@ $1 == "|" && $2 ~ /^(param|online|oncircle)$/ {
   made_by[numbers] = $2
 }
 $1 == "sample" { sample_line = $0 }
+# what an answer of solve knows of itself, as: known again yes
+$1 == "known" { ENVIRON[$2] = substr($0, length($1 $2) + 3) }
 
 # Reads the numbers into sample[1], sample[2], ..: those of the figure that was tried, where there is one, else those of the log.
 function read_sample(   k, size, part) {

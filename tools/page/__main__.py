@@ -1,12 +1,13 @@
 """Makes a page of a program, or a folder of pages.
 
-    page [--short] [--recorded] -- NAME PROGRAM LOG TEXT AT BINARY    a page on standard output
-    page [--short] [--recorded] -- FOLDER LIST BINARY                 a page of each program of the list, and an index
+    page [--short] [--recorded] -- NAME PROGRAM LOG TEXT AT CITE BINARY    a page on standard output
+    page [--short] [--recorded] -- FOLDER LIST BINARY                      a page of each program of the list, and an index
 
 PROGRAM is the file that was proved, NAME what it is called, LOG its log, TEXT the readable proof (empty where there is none), AT a line of
-numbers at which `place` says that the statement fails, where the log has no verdict, or nothing; BINARY the program that made them, or
-nothing. LIST has NAME, PROGRAM, LOG, TEXT and AT of each, with a byte 0 behind every one. With --recorded the gate's record says that
-BINARY is proved.
+numbers at which `place` says that the statement fails, where the log has no verdict, or nothing; CITE the input of `cite` by which solve
+shows the statement, with its answer as LOG and the proof of the formulation as TEXT, or nothing; BINARY the program that made them, or
+nothing. LIST has NAME, PROGRAM, LOG, TEXT, AT and CITE of each, with a byte 0 behind every one. With --recorded the gate's record says
+that BINARY is proved.
 """
 # SPDX-License-Identifier: Apache-2.0
 import argparse
@@ -18,15 +19,17 @@ from folder import Refused, write_folder
 from page import Page
 
 WRITING_FAILED, FAULT, REFUSED = 9, 70, 3
+FIELDS = 6
 
 
 def read(path):
     return Path(path).read_text(encoding="utf-8", errors="replace")
 
 
-def page_of(name, source, log, text, at, binary, given):
+def page_of(name, source, log, text, at, cite, binary, given):
     lines = read(log).split("\n")[:-1]  # what stands behind the last line feed was cut off
-    return Page(name, read(source), lines, read(text).splitlines(), binary, at=at, is_short=given.short, is_recorded=given.recorded)
+    known = {"at": at, "citation": read(cite) if cite else "", "is_short": given.short, "is_recorded": given.recorded}
+    return Page(name, read(source), lines, read(text).splitlines(), binary, **known)
 
 
 def write_out(text):
@@ -50,7 +53,7 @@ def main():
             return 0
         folder, listed, binary = given.given
         fields = [os.fsdecode(field) for field in Path(listed).read_bytes().split(b"\0")[:-1]]
-        records = [fields[k : k + 5] for k in range(0, len(fields), 5)]
+        records = [fields[k : k + FIELDS] for k in range(0, len(fields), FIELDS)]
         pages = (page_of(*record, binary, given) for record in records)
         write_folder(folder, [record[0] for record in records], pages)
         return 0

@@ -11,7 +11,7 @@ from page import GENERATOR, document
 from subjects import read_subjects
 
 INDEX = "index.html"
-VERDICTS = ("proved", "false", "impossible", "undecided")
+VERDICTS = ("proved", "false", "impossible", "undecided", "open")
 
 
 class Refused(Exception):

@@ -10,6 +10,7 @@ import re
 from fractions import Fraction
 from pathlib import Path
 
+from cited import Cited
 from figure import placed
 from formulas import NoFigure
 from language import read_program, read_statement
@@ -25,9 +26,11 @@ GENERATOR = '<meta name="generator" content="Jarduzki">'
 
 class Page:
     """All that is known of a program when its page is made. `at` is a line of numbers at which the statement fails, as `place` says, where
-    the log has no verdict. `is_short` leaves long lines of the proof out; `is_recorded`: the gate's record has the prover as proved."""
+    the log has no verdict. `citation` is the input of `cite` where another formulation is cited; then `log` is the answer of solve, and
+    `text` the proof of the formulation. `is_short` leaves long lines of the proof out; `is_recorded`: the gate's record has the prover as
+    proved."""
 
-    def __init__(self, name, source, log, text, binary, at="", is_short=False, is_recorded=False):
+    def __init__(self, name, source, log, text, binary, at="", citation="", is_short=False, is_recorded=False):
         self.name = name
         self.log = log
         self.text = text
@@ -44,7 +47,8 @@ class Page:
         self.goals = [read_statement(line.split(" ", 2)[2]) for line in log if line.startswith("goal ")]
         self.end = log[-1].split(" ")
         self.tried = [Fraction(number) for number in at.split(" ")[1:]]
-        self.verdict = self.end[1] if self.end[0] == "verdict" else "false" if self.tried else "undecided"
+        self.verdict = self.end[1] if self.end[0] == "verdict" else "false" if self.tried else "open" if self.end == ["open"] else "undecided"
+        self.cited = Cited(citation, len(self.program.commands)) if citation else None
         self.live = self.drawn = None
 
     def title(self):
@@ -56,7 +60,7 @@ class Page:
     def html(self, links=""):
         """The page; `links` lead to others, where there are any."""
         parts = [links, self.lead(), self.box(), self.picture(), self.brought(), self.counterexample(), self.construction()]
-        parts += [self.proof(), self.footer(), links]
+        parts += [self.cited.html() if self.cited else "", self.proof(), self.footer(), links]
         return document(self.title(), "\n".join(part for part in parts if part), self.live)
 
     def lead(self):
@@ -79,6 +83,8 @@ class Page:
         elif self.verdict == "impossible":
             condition = self.conditions[int(self.end[2]) - 1]
             words = f"<p><b>Impossible.</b> It is never so that {condition_html(condition)}: there is no such figure.</p>"
+        elif self.verdict == "open":
+            words = f"<p><b>Open.</b> {statement}? The prover stopped, and no other formulation was found that can be cited.</p>"
         else:
             words = f"<p><b>Undecided.</b> {statement}? The prover stopped: {self.stop()}.</p>"
         return f'<section class="verdict {self.verdict}">{words}</section>'
@@ -178,9 +184,9 @@ class Page:
             return ""
         lemmas = HERE.parent.parent / "docs" / "LEMMAS.md"
         rows = table_rows(lemmas.read_text()) if lemmas.exists() else {}
-        proof = Proof(self.program, self.log, self.text, rows)
+        proof = Proof(self.cited.form, self.cited.log, self.text, rows) if self.cited else Proof(self.program, self.log, self.text, rows)
         body = proof.html(self.is_short)
-        title = "The proof" if self.verdict == "proved" else "Why"
+        title = "The proof of the formulation" if self.cited else "The proof" if self.verdict == "proved" else "Why"
         used = f"<h2>The lemmas of these equations</h2>{lemmas_html(proof.used, rows)}" if proof.used else ""
         short = " Its longest lines and the chains of its conditions are left out here." if self.is_short else ""
         return (

@@ -3,7 +3,8 @@
     solve PROGRAM [--name NAME] [--seconds N] [--jobs N] [--tries N] [--certificate FOLDER] [--quiet] FILE
     solve PROGRAM --check FOLDER [FILE..]
 
-PROGRAM is the built prover. What is told was shown by its words; docs/SOLVING.md says what the answers mean.
+PROGRAM is the built prover. What is told was shown by its words; docs/SOLVING.md says what the answers mean. The first form writes an
+answer in lines, as answers.py has them; the second one tells in words what certificates show.
 """
 # SPDX-License-Identifier: Apache-2.0
 import argparse
@@ -15,13 +16,13 @@ from pathlib import Path
 
 sys.path.insert(1, str(Path(__file__).resolve().parent.parent))
 import certificates  # noqa: E402
-from answers import Answers, false_in_words, log_in_words  # noqa: E402
+from answers import OPEN, PROVED, false_answer, in_words, open_answer, proved_answer  # noqa: E402
 from canonical import read  # noqa: E402
 from figures import figure_where  # noqa: E402
 from prover import MOST, Prover  # noqa: E402
 from search import Search  # noqa: E402
 
-SECONDS, FIRST_SHARE = 30, 1 / 6
+SECONDS, FIRST_SHARE = 30, 1 / 8
 DEFAULT_STEPS = 100_000_000
 STOPS = (6, 7, 12)
 FALSE, BAD_WORDS, BAD_WRITE, NOT_ACCEPTED, CUT_OFF = 1, 3, 9, 11, 70
@@ -40,10 +41,10 @@ def options(words):
 
 
 class Solver:
-    """One file: what is tried, in this order, and in `told` what is told of it."""
+    """One file: what is tried, in this order, and the answer in lines."""
 
     def __init__(self, given, text):
-        self.given, self.text, self.told = given, text, ""
+        self.given, self.text, self.answer, self.found = given, text, "", None
         self.name = given.name or given.files[0]
         self.prover = Prover(given.program, None if given.tries else given.seconds)
 
@@ -54,17 +55,17 @@ class Solver:
             if status is not None:
                 return status
 
-    def decided(self, steps=DEFAULT_STEPS, again=""):
+    def decided(self, steps=DEFAULT_STEPS, known=""):
         """The verdict of `prove`; none where it stops."""
         answer = self.prover.ask("prove", self.text, int(FIRST_SHARE * self.given.seconds) + 1, steps)
-        self.canonical = certificates.canonical_of(answer.text)
+        self.canonical, self.stop = certificates.canonical_of(answer.text), answer.last
         if answer.status in (None, *STOPS) and self.canonical:
             return None
-        self.told = log_in_words(self.name, answer.text, again)
+        self.answer = known + answer.text
         return CUT_OFF if answer.status is None else answer.status
 
     def decided_with_the_most(self):
-        return self.decided(MOST, "yes")
+        return self.decided(MOST, "known again yes\n")
 
     def refuted(self):
         """Ten figures: a false statement mostly fails at the first."""
@@ -72,18 +73,20 @@ class Solver:
         if not figure:
             return None
         self.keep(at=f"{figure.line}\n{self.canonical}")
-        self.told = false_in_words(self.name, self.canonical, figure.line)
+        self.answer = false_answer(*read(self.canonical), figure.line, self.stop)
         return FALSE
 
     def searched(self):
         book, statement = read(self.canonical)
         search = Search(book, statement, self.prover, self.given.jobs, self.given.tries, self.progress())
-        found = search.run()
-        if found:
-            text = certificates.with_mark(found.figure, book, statement)
-            self.keep(cite=found.citation(text), at=f"{found.placed.line}\n{text}")
-        self.told, status = Answers(self.name).solved(book, statement, found) if found else Answers(self.name).open(search)
-        return status
+        found = self.found = search.run()
+        if not found:
+            self.answer = open_answer(search)
+            return OPEN
+        text = certificates.with_mark(found.figure, book, statement)
+        self.keep(cite=found.citation(text), at=f"{found.placed.line}\n{text}")
+        self.answer = proved_answer(book, statement, found.figure, found.placed.line, found.form)
+        return PROVED
 
     def keep(self, **parts):
         if self.given.certificate:
@@ -107,8 +110,7 @@ def check(given):
     worst = 0 if names else BAD_WORDS
     for name in names:
         try:
-            book = certificates.canonical(given.program, paths[name]) if paths else None
-            told = Answers(name).certified(*certificates.checked(given.program, given.check, name, book), book)
+            told = in_words(name, certificates.shown(given.program, given.check, name, paths.get(name)))
         except certificates.Refused as refusal:
             told, worst = f"{name}: refused: {refusal}\n", NOT_ACCEPTED
         sys.stdout.write(told)
@@ -137,7 +139,7 @@ def main(words):
         solver = Solver(given, Path(given.files[0]).read_text(encoding="utf-8", errors="surrogateescape"))
         end_on_signals(solver.prover)
         status = solver.solve()
-        sys.stdout.write(solver.told)
+        sys.stdout.write(solver.answer)
         sys.stdout.flush()
         return status
     except BrokenPipeError:

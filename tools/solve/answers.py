@@ -1,72 +1,58 @@
-"""What is told of an answer: exactly what was shown. The words of conditions and statements are those of tools/words.awk."""
+"""What is told of an answer: exactly what was shown. An answer has the lines of a log, and some kinds more, which tools/solve.awk has."""
 # SPDX-License-Identifier: Apache-2.0
 import os
 import subprocess
 
-from figures import Placed
-from canonical import TOOLS, condition_text, conditions, line_of, program_text, read, same, statement_text
+from canonical import TOOLS, condition_text, conditions, line_of, program_text, same, statement_text
 
-PROVED, SOLVED, OPEN = 0, 17, 18
-
-
-def status_of(book, figure):
-    """A formulation that is cited at the program itself proves it. At a program with something added it shows the statement there; the
-    program is called solved."""
-    return PROVED if figure == book else SOLVED
+PROVED, OPEN = 0, 18
 
 
-def in_words(text, *scripts, **known):
-    """A text as these scripts tell it, with what is known besides."""
-    words = ["awk", *(x for script in ("words.awk", *scripts) for x in ("-f", TOOLS / script))]
-    return subprocess.run(words, input=text, capture_output=True, text=True, env={**os.environ, **known}).stdout
+def in_words(name, answer):
+    """An answer as geo tells it."""
+    scripts = (x for script in ("words.awk", "sample.awk", "decide.awk", "solve.awk") for x in ("-f", TOOLS / script))
+    known = {**os.environ, "name": name, "again": "", "at": "", "seconds": ""}
+    return subprocess.run(["awk", *scripts], input=answer, capture_output=True, text=True, env=known).stdout
 
 
-def log_in_words(name, log, again="", at=""):
-    """The answer of `prove`, as `decide` tells it."""
-    return in_words(log, "sample.awk", "decide.awk", name=name, again=again, at=at, seconds="")
+def program_lines(commands, statement):
+    """The program, its conditions and its goal."""
+    told = [f"condition {k} {condition_text(c)}" for k, c in enumerate(conditions(commands, statement), 1)]
+    return [*(f"| {row}" for row in program_text(commands, statement).splitlines()), *told, f"goal 1 {statement_text(statement)}"]
 
 
-def false_in_words(name, program, line):
-    """The figure that was tried and at which the statement fails, as `decide` tells it."""
-    return log_in_words(name, "".join(f"| {row}\n" for row in program.splitlines()), at=line)
+def false_answer(commands, statement, line, stop="stop"):
+    """The figure that was tried and at which the statement fails, behind where `prove` stopped."""
+    return text_of(f"known at {line}", *program_lines(commands, statement), stop)
 
 
-class Answers:
-    """Answers for one file, each line with its kind, as tools/solve.awk reads them."""
+def proved_answer(book, statement, figure, line, form):
+    """The program's conditions, and what is added to it in the figure at which the formulation is cited: auxiliary points, and conditions
+    that are there besides. That what is added may go is the law of docs/LIBRARY.md."""
+    own = conditions(book, statement)
+    known = {same(c) for c in own}
+    besides = [c for c in conditions(figure, statement) if c not in own and same(c) not in known]
+    return text_of(
+        *program_lines(book, statement),
+        " v=".join(["sample", *line.split()[1:]]),
+        *(f"form {line_of(c)}" for c in form),
+        *(f"auxiliary {line_of(c)}" for c in figure[len(book) :] if c.word != "assume"),
+        *(f"besides {k} {condition_text(c)}" for k, c in enumerate(besides, 1)),
+        "cited" if len(figure) == len(book) else "cited with more",
+        "verdict proved",
+    )
 
-    def __init__(self, name):
-        self.name = name
 
-    def told(self, answer, statement, *lines):
-        text = [f"name {self.name}", f"answer {answer}", f"statement {statement_text(statement)}", *lines]
-        return in_words("\n".join(text) + "\n", "solve.awk")
+def open_answer(search):
+    """What was tried, and a formulation that was proved and not carried back."""
+    lost = search.lost
+    return text_of(
+        *program_lines(search.book, search.statement),
+        f"note {search.tried} formulations were tried; {search.proved} were proved and not carried back",
+        *([f"form {line_of(c)}" for c in lost.form] + [f"note cite answers: {lost.outcome}"] if lost else []),
+        "open",
+    )
 
-    def added(self, book, statement, figure):
-        """The conditions of the program, those that are there besides, and the auxiliary points."""
-        own = conditions(book, statement)
-        known = {same(c) for c in own}
-        besides = [c for c in conditions(figure, statement) if c not in own and same(c) not in known]
-        lines = [f"condition {condition_text(c)}" for c in own] + [f"besides {condition_text(c)}" for c in besides]
-        return lines + [f"auxiliary {line_of(c)}" for c in figure[len(book) :] if c.word != "assume"]
 
-    def solved(self, book, statement, found):
-        status = status_of(book, found.figure)
-        lines = self.added(book, statement, found.figure) + [f"form {line_of(c)}" for c in found.form]
-        lines.append(f"example {found.placed.words(program_text(found.figure, statement))}")
-        return self.told("proved" if status == PROVED else "solved", statement, *lines), status
-
-    def open(self, search):
-        lines = [f"note {search.tried} formulations were tried; {search.proved} were proved and not carried back"]
-        if search.lost:
-            lines += [f"form {line_of(c)}" for c in search.lost.form] + [f"note cite answers: {search.lost.outcome}"]
-        return self.told("open", search.statement, *lines), OPEN
-
-    def certified(self, told, statement, commands, line, book):
-        """What a certificate shows; without the program that it is of its own whole program."""
-        text = program_text(commands, statement)
-        if told == "false":
-            return false_in_words(self.name, text, line)
-        own = read(book)[0] if book else commands
-        lines = self.added(own, statement, commands) + [f"program {line_of(c)}" for c in commands if not book]
-        word = "proved" if status_of(own, commands) == PROVED else "solved"
-        return self.told(word, statement, *lines, f"example {Placed(line, []).words(text)}")
+def text_of(*lines):
+    return "".join(f"{row}\n" for row in lines)

@@ -47,7 +47,7 @@ def again(ground, facts):
 
 # What smaller statements and the rounds of the search take, and how many points at most.
 FOR_SMALLER = [((), 0), ((triangle,), 6), ((triangle, middles), 8), ((touching,), 12)]
-POOLS = [((), 0), ((triangle,), 6), ((middles,), 6), ((again,), 3), ((touching,), 12), ((triangle, middles), 8), ((triangle, again), 8)]
+POOLS = [((), 0), ((middles,), 6), ((touching,), 12), ((triangle,), 6), ((again,), 3), ((triangle, middles), 8), ((triangle, again), 8)]
 
 
 def pool(ground, rules, most):

@@ -3,7 +3,8 @@
 import re
 from pathlib import Path
 
-from canonical import program_text, read
+from answers import false_answer, proved_answer, text_of
+from canonical import line_of, program_text, read
 from prover import DONE, Prover
 
 ADDED = "% added\n"
@@ -51,35 +52,42 @@ def file_text(path, name):
         raise Refused(f"cannot read {name}: {error.strerror}") from error
 
 
-def checked(program, folder, name, book=None):
-    """What a certificate shows: a word, the statement, the commands of its program and its `at` line. `book` is the canonical program that
-    it should be of."""
-    prover = Prover(program)
+def shown(program, folder, name, path=None):
+    """What a certificate shows, as an answer: of the program in the file, or of its own whole program, which is told then."""
+    prover, book = Prover(program), None if path is None else read(canonical(program, path))
     line, _, figure = file_text(Path(folder, f"{name}.at"), f"{name}.at").partition("\n")
+    is_cited = Path(folder, f"{name}.cite").exists()
+    check_place(prover, line, figure, name, "holds" if is_cited else "fails")
+    commands, statement = read(figure)
+    form = cited_form(prover, Path(folder, f"{name}.cite"), commands, statement) if is_cited else []
+    if book:
+        check_book(is_cited, name, commands, statement, *book)
+    own = book[0] if book else commands
+    told = "" if book else text_of(*(f"program {line_of(c)}" for c in commands))
+    return told + (proved_answer(own, statement, commands, line, form) if is_cited else false_answer(own, statement, line))
+
+
+def check_place(prover, line, figure, name, wanted):
+    """`place` has this figure, and the statement holds or fails there."""
     status, rows = prover.place(line, figure)
     if status != DONE:
         raise Refused(f"place answers {rows[-1] if rows else status} to {name}.at")
-    told, wanted = ("solved", "holds") if Path(folder, f"{name}.cite").exists() else ("false", "fails")
     if rows[-1] != wanted:
         raise Refused(f"place answers {rows[-1]} to {name}.at, and {wanted} is due")
-    commands, statement = read(figure)
-    if told == "solved":
-        check_citation(prover, file_text(Path(folder, f"{name}.cite"), f"{name}.cite"), name, commands, statement)
-    if book is not None:
-        check_book(told, name, commands, statement, *read(book))
-    return told, statement, commands, line
 
 
-def check_citation(prover, citation, name, commands, statement):
-    """`cite` shows the statement at the program that `place` has."""
+def cited_form(prover, path, commands, statement):
+    """The commands of the formulation that `cite` shows at the program that `place` has."""
+    citation = file_text(path, path.name)
     cited = prover.ask("cite", citation)
     if cited.status != DONE:
-        raise Refused(f"cite answers {cited.last} to {name}.cite")
+        raise Refused(f"cite answers {cited.last} to {path.name}")
     if read(citation[re.search(r"^with .*\n", citation, re.M).end() :]) != (commands, statement):
-        raise Refused(f"{name}.cite and {name}.at are of two programs")
+        raise Refused(f"{path.name} and {path.stem}.at are of two programs")
+    return read(canonical_of(citation))[0]
 
 
-def check_book(told, name, commands, statement, book, goal):
+def check_book(is_cited, name, commands, statement, book, goal):
     """The certificate's program is the one that is asked for, and behind it at most auxiliary commands and assumptions."""
-    if commands[: len(book)] != book or statement != goal or told == "false" and len(commands) > len(book):
+    if commands[: len(book)] != book or statement != goal or not is_cited and len(commands) > len(book):
         raise Refused(f"{name}.at is of another program")

@@ -92,6 +92,13 @@ def by_centre(r, x):
     return [("circumcenter", t) for o, on in r.circles if o == x for t in combinations(on, 3) if len({r.at[p] for p in t}) == 3]
 
 
+def by_altitudes(r, x):
+    """X where the altitudes of three others meet."""
+    for a, b, c in combinations([p for p in r.points if r.at[p] != r.at[x]], 3):
+        if is_right(r.at[x], r.at[a], r.at[b], r.at[c]) and is_right(r.at[x], r.at[b], r.at[a], r.at[c]) and len({r.at[a], r.at[b], r.at[c]}) == 3:
+            yield "orthocenter", (a, b, c)
+
+
 def by_inversion(r, x):
     """X by an inversion."""
     for line in r.lines_of(x):
@@ -103,7 +110,7 @@ def by_inversion(r, x):
 
 # The rules, and how much of X each one fixes: one of its two numbers, or both.
 RULES = {by_line: 1, by_circle: 1, by_two_lines: 2, by_foot: 2, by_line_and_circle: 2, by_two_circles: 2, by_vectors: 2}
-RULES |= {by_ratio: 2, by_quarter: 2, by_centre: 2, by_inversion: 2}
+RULES |= {by_ratio: 2, by_quarter: 2, by_centre: 2, by_altitudes: 2, by_inversion: 2}
 MOST_OF_A_RULE = 30
 
 

@@ -1,9 +1,10 @@
 """Frames, and smaller statements: formulations that are written down at once."""
 # SPDX-License-Identifier: Apache-2.0
-from itertools import combinations, permutations
+from itertools import combinations, permutations, product
 
 from residues import along, inverse, minus, place, square
 from canonical import Command, needed, names_in
+from relations import ON_LINES
 
 ONE = ("number", 1)
 
@@ -12,23 +13,73 @@ def framed(commands, names, a, b):
     """A rectangular frame: A and B stay, V is B turned a quarter about A, and each other free point is the corner of a rectangle with two
     sides on AB and AV. The areas of free points are gone then. Gives auxiliary commands and a formulation."""
     v = names.command("tratio", a, b, ONE)
-    added, form = [v], [*free(a, b), v]
-    for x in [c.name for c in commands if c.word == "point" and c.name not in (a, b)]:
-        p, q = names.command("foot", x, a, b), names.command("foot", x, a, v.name)
+    return in_rectangles(commands, names, (a, b, v.name), [v], [*free(a, b), v])
+
+
+def framed_by_altitude(commands, names, a, b, c):
+    """The same with Z, the foot of the altitude from A on BC; B is a point of the altitude, turned a quarter about Z."""
+    z = names.command("foot", a, b, c)
+    t = names.command("tratio", z.name, b, ONE)
+    form = [*free(z.name, a), Command("online", t.name, (a, z.name)), Command("tratio", b, (z.name, t.name, ("number", -1)))]
+    commands = [on_axis(command, {b, c}, (b, z.name)) for command in commands]
+    return in_rectangles(commands, names, (z.name, a, b), [z, t], [*form, Command("online", c, (b, z.name))])
+
+
+def on_axis(command, pair, axis):
+    """The command with the axis in the place of a line through these two points."""
+    args = list(command.args)
+    for i, j in ON_LINES.get(command.word, ()) if command.word in ("online", "inter", "foot") else ():
+        if {args[i], args[j]} == pair:
+            args[i], args[j] = axis
+    return Command(command.word, command.name, tuple(args))
+
+
+def in_rectangles(commands, names, axes, added, form):
+    """Each other free point is the corner of a rectangle with two sides on AB and AV."""
+    a, b, v = axes
+    for x in [c.name for c in commands if c.word == "point" and c.name not in [d.name for d in form]]:
+        p, q = names.command("foot", x, a, b), names.command("foot", x, a, v)
         added += [p, q]
-        form += [Command("online", p.name, (a, b)), Command("online", q.name, (a, v.name)), Command("translate", x, (a, p.name, q.name))]
+        form += [Command("online", p.name, (a, b)), Command("online", q.name, (a, v)), Command("translate", x, (a, p.name, q.name))]
     return added, form + [c for c in commands if c.word not in ("point", "assume")]
 
 
 def frames(ground, commands, rule, most):
-    """Frames of the commands in an order at random; those on a side that the conditions of the program have come first."""
+    """Frames of the commands in an order at random; those on a side that the conditions of the program have come first. Half as many are by
+    an altitude."""
     points = [c.name for c in commands if c.word == "point"]
     sides = {frozenset(c[1:]) for c in ground.own if c[0] == "different"}
     pairs = list(permutations(points, 2)) if len(points) > 2 else []
     pairs = sorted(ground.dice.sample(pairs, len(pairs)), key=lambda pair: frozenset(pair) not in sides)
-    for a, b in pairs[:most]:
-        added, form = framed(commands, ground.names, a, b)
+    offers = [framed(commands, ground.names, a, b) for a, b in pairs[:most]]
+    for b, c in [pair for pair in pairs if pair[0] < pair[1]][: most // 2]:
+        a = ground.dice.choice([x for x in points if x not in (b, c)])
+        offers.insert(0, framed_by_altitude(commands, ground.names, a, b, c))
+    for added, form in offers:
         yield ground.with_added(added).attempt(rule, needed(form, names_in(ground.statement.args)))
+
+
+def incenters(commands):
+    """(A, I, B, X, C, Y): the lines BX and CY meet in A, and are BC mirrored in IB and in IC; so I is a centre of a circle that touches."""
+    mirrored = {c.name: (c.args[0], {*c.args[1:]}) for c in commands if c.word == "reflect"}
+    for a, ends in [(c.name, c.args) for c in commands if c.word == "inter"]:
+        for (b, x), (c, y) in product((ends[:2], ends[1::-1]), (ends[2:], ends[:1:-1])):
+            if x in mirrored and y in mirrored and mirrored[x][0] == c and mirrored[y][0] == b and b in mirrored[x][1] and c in mirrored[y][1]:
+                yield from ((a, i, b, x, c, y) for i in mirrored[x][1] & mirrored[y][1])
+
+
+def touching_first(ground):
+    """A triangle by its incircle: the touching points first, and the corners as the inverses of their midpoints."""
+    make = ground.names.command
+    for a, i, b, x, c, y in incenters(ground.commands):
+        known = [f for f in ground.commands if f.word == "foot" and f.args[0] == i and {*f.args[1:]} == {b, c}]
+        d, e, f = known[0] if known else make("foot", i, b, c), make("foot", i, c, y), make("foot", i, b, x)
+        middles = [make("midpoint", p.name, q.name) for p, q in ((e, f), (f, d), (d, e))]
+        form = [*free(i, d.name), *(Command("oncircle", p.name, (i, d.name)) for p in (e, f)), *middles]
+        form += [Command("inverse", p, (m.name, i, d.name)) for p, m in zip((a, b, c), middles)]
+        form += [p for p in ground.commands if p.name not in (a, b, c, x, y, i, d.name) and p.word != "assume"]
+        added = [p for p in (d, e, f) if p not in known] + middles
+        yield ground.with_added(added).attempt("touching points first", needed(form, names_in(ground.statement.args)))
 
 
 # Smaller statements. Each rule gives auxiliary commands and a formulation that has the statement; what is left to be shown is what the

@@ -3,8 +3,8 @@
 from dataclasses import dataclass, field
 
 from constructions import constructions
-from relations import Relations
-from residues import NoFigure, holds, places, random_figure
+from relations import ON_LINES, Relations
+from residues import Freedom, NoFigure, holds, places, random_figure
 from canonical import Command, Names, command_conditions, conditions, names_in, needed, program_text, renamed, spellings, without_lines
 
 ASSUMED = ("different", "not_collinear", "not_parallel")
@@ -12,6 +12,8 @@ ASSUMED = ("different", "not_collinear", "not_parallel")
 WEIGHT = {"point": 4, "param": 0, "online": 1, "oncircle": 2.5, "midpoint": 1, "translate": 1, "symmetric": 1, "lratio": 1, "pratio": 1.5}
 WEIGHT |= {"tratio": 1, "weights": 3, "centroid": 1.5, "inverse": 2, "foot": 2.5, "inter": 3, "second": 3, "reflect": 3, "cc": 3.5}
 WEIGHT |= {"circumcenter": 6, "orthocenter": 6}
+# How many orders are drawn, of which the lightest are tried.
+DRAWN = 150
 # How often an order that leads nowhere is taken back by some points.
 STEPS_BACK = 12
 
@@ -24,7 +26,7 @@ class Try:
     form: list
     figure: list
     own_form: list
-    stage: int = 1
+    stage: int = 0
     far: float = 0
     outcome: str = ""
     log: str = ""
@@ -51,7 +53,7 @@ class Ground:
     def load_added(self, added):
         """Takes these auxiliary commands, and places the figure anew. NoFigure: they make none."""
         self.added = added
-        self.real = random_figure(self.commands + added, self.dice)
+        self.real = random_figure(self.commands + added, self.dice, True)
         self.at = places(self.real)
 
     def with_added(self, added):
@@ -98,70 +100,77 @@ class Orders:
         self.ground, self.dice = ground, ground.dice
         self.facts = ground.relations()
         self.made = constructions(self.facts, ground.commands + ground.added, self.dice)
-        self.needs = {c: frozenset(x for x in names_in(c.args) if x in ground.at) for made in self.made.values() for c in made}
-        self.known = {c: self.facts.known.says(c) for c in self.needs}
+        self.needs = {c: frozenset(names_in(c.args)) for made in self.made.values() for c in made}
+        own = {*ground.commands, *ground.added}
+        self.known = {c: c in own or self.facts.known.says(c) for c in self.needs}
         self.params = [c for c in ground.commands if c.word == "param"]
+        self.freedom, self.place = Freedom(ground.real), {}
+        for c in ground.commands + ground.added:
+            own = len(self.place) / len(ground.commands)
+            self.place[c.name] = max((self.place.get(x, 0) for x in names_in(c.args)), default=0) if c in ground.added else own
+        self.named = set(names_in(ground.statement.args))
         self.goal = [x for x in dict.fromkeys(names_in(ground.statement.args)) if x in ground.at]
 
     def start(self):
-        """The points that the statement needs in the program, and some of the auxiliary points."""
-        wanted = set(self.goal)
-        for c in reversed(self.ground.added):
-            if c.name in wanted or self.dice.random() < 0.3:
-                wanted.update((c.name, *names_in(c.args)))
-        kept = {c.name for c in needed(self.ground.commands + self.ground.added, wanted)}
-        return {x: None for x in self.facts.points if x in kept}
+        """The points of the statement, and some of the others."""
+        share, added = self.dice.choice((0.3, 0.6, 1)), self.facts.added
+        return {x: None for x in self.facts.points if x not in added or x in self.goal or self.dice.random() < share}
 
     def peeled(self):
-        """The points are taken away one by one, each one that the relations of the program with those that are left fix by a construction.
-        So the formulation has all relations of the program, and says the same. None: there is no such point any more."""
+        """The points are taken away one by one, each one that a construction by the points that are left leaves as free as it is in the figure.
+        So the formulation has all relations of the figure. None: there is no such point any more."""
         left, taken, back = self.start(), [], STEPS_BACK
         style = {word: self.dice.choice((0.2, 1, 5)) / (1 + weight) for word, weight in WEIGHT.items()}
-        rights = self.facts.feet + [p for three in self.facts.altitudes for p in self.dice.sample(three, 2)]
+        style["untold"], style["left out"] = map(self.dice.choice, ((0, 0, 0.05), (0, 0, 0.1, 0.5)))
+        style["unused"], mixed = map(self.dice.choice, ((0, 0, 0.3), (0.3, 0.5, 1, 2)))
+        order = self.order(left, mixed)
+        numbers = [c.name for c in self.params if c.name in self.named or style["untold"]]
         while left:
-            can = self.candidates(left, rights)
-            if can:
-                command = self.dice.choices(can, [0.5 if c.word == "point" else style[c.word] for c in can])[0]
+            command = self.last(left, taken, style, order, numbers)
+            if command:
                 left = {x: None for x in left if x != command.name}
                 taken.append(command)
             elif back and taken:
                 back -= 1
                 for _ in range(min(len(taken), self.dice.randrange(1, 5))):
                     left[taken.pop().name] = None
+                order = self.order(left, mixed)
             else:
                 return None
         return needed(self.params + taken[::-1], self.goal)
 
-    def candidates(self, left, rights):
-        """The constructions that may be taken away last, and free points. A point that more than two relations bind comes only where there
-        is no other, since of its relations all but two are lost, unless these follow from one another."""
-        there, found, bound = set(left), [], []
-        for x in left:
-            n = 2 if x in self.facts.added else self.facts.load(x, there, rights)
-            if n == 0:
-                found.append(Command("point", x, ()))
-            some = found if n < 3 else bound
-            some += [c for c, fixed in self.made[x].items() if fixed == min(n, 2) and self.known[c] and self.needs[c] <= there]
-        return found or bound
+    def order(self, points, mixed):
+        """The order of the program, more or less mixed."""
+        return {x: self.place[x] + mixed * self.dice.random() for x in points}
 
-    def thinned(self, form):
-        """The same order by constructions that need the fewest points besides those that are needed anyway; true or not."""
-        place, need, kept = {c.name: k for k, c in enumerate(form)}, set(self.goal), []
-        for c in reversed(form):
-            if c.name in need:
-                made, above = self.made.get(c.name, {}), {x for x in place if place[x] < place[c.name]}
-                ways = [d for d in made if made[d] == made.get(c) and self.known[d] and self.needs[d] <= above]
-                kept.append(min([c, *ways], key=lambda d: (len(self.needs.get(d, need) - need), WEIGHT[d.word])))
-                need.update(names_in(kept[-1].args))
-        return kept[::-1]
+    def last(self, left, taken, style, order, numbers):
+        """A construction that may be taken away last: of the first point in this order that has one. A point that nothing needs may also be
+        left out."""
+        used = set(self.goal).union(*(self.needs.get(c, ()) for c in taken))
+        for x in sorted(left, key=lambda x: order[x] + style["unused"] * (x not in used), reverse=True):
+            rest = [y for y in left if y != x]
+            free = self.freedom.beside(x, rest + numbers)
+            if free == 2 or x not in used and self.dice.random() < style["left out"]:
+                return Command("point", x, ())
+            there = {*rest, *numbers}
+            can = [c for c, fixed in self.made[x].items() if fixed == 2 - free and self.needs[c] <= there]
+            untold = 0 if x in self.goal else style["untold"]
+            weights = [style[c.word] * self.own_lines(c) * (1 if self.known[c] else untold) for c in can]
+            if any(weights):
+                return self.dice.choices(can, weights)[0]
+        return None
+
+    def own_lines(self, command):
+        """Less for a construction by lines of which the program has other points: what it says itself is shown at once."""
+        pairs = [frozenset((command.args[i], command.args[j])) for i, j in ON_LINES.get(command.word, ())]
+        return 0.2 ** sum(pair not in self.facts.pairs for pair in pairs)
 
     def batch(self, size):
-        """So many formulations that are true at random numbers, each once, those of the least weight first."""
+        """So many formulations that are true at random numbers, each once: those of the least weight of many."""
         found = {}
-        for k in range(3 * size):
-            form = self.peeled() if len(found) < size else None
-            form = self.thinned(form) if form and k % 2 else form
+        for _ in range(DRAWN):
+            form = self.peeled()
             if form is not None and self.ground.is_true(form):
                 attempt = self.ground.attempt("order", form)
                 found.setdefault(program_text(attempt.form, self.ground.statement), attempt)
-        return sorted(found.values(), key=lambda attempt: attempt.weight)
+        return sorted(found.values(), key=lambda attempt: attempt.weight)[:size]

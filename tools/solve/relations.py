@@ -13,47 +13,85 @@ ON_CIRCLES = {"oncircle": ((0, 1),), "cc": ((0, 2), (1, 2)), "second": ((2, 0),)
 CENTRES = {"circumcenter": (0, 1, 2), "midpoint": (0, 1)}
 # The two right angles of a command's point and the ends of a line; of an orthocenter there are three.
 RIGHT = {"foot": ((0, (1, 2)),), "reflect": ((0, (1, 2)),), "tratio": ((0, (0, 1)),), "orthocenter": ((0, (1, 2)), (1, (0, 2)), (2, (0, 1)))}
-# Commands that fix each of their points by the others, and those that say of it that it is on a line, and one thing more.
-WHOLE = ("translate", "tratio", "centroid", "pratio", "weights")
-PART = ("lratio", "inverse")
+# Pairs of points that have one direction: 0 is the new point, 1 the first argument.
+PARALLEL = {"pratio": (((0, 1), (2, 3)),), "translate": (((0, 3), (1, 2)), ((0, 2), (1, 3)))}
 RATIOS = [(n, d) for d in (1, 2, 3, 4) for n in (-3, -2, -1, 1, 2, 3, 4) if gcd(n, d) == 1 and n != d]
 
 
 def one_line_each(lines):
     """Lines that have two points in common are made one, in place."""
-    for a, b in combinations(lines, 2):
-        if len(a & b) > 1:
-            lines[:] = [line for line in lines if line is not a and line is not b] + [a | b]
-            return one_line_each(lines)
-    return lines
+    size = None
+    while size != len(lines):
+        size, found = len(lines), []
+        for line in lines:
+            same = [other for other in found if len(other & line) > 1]
+            found = [other for other in found if other not in same] + [line.union(*same)]
+        lines[:] = found
 
 
 def one_circle_each(circles):
     """Circles with one centre and a point in common are made one, in place."""
-    for a, b in combinations(circles, 2):
-        if a[0] == b[0] and a[1] & b[1]:
-            circles[:] = [c for c in circles if c is not a and c is not b] + [(a[0], a[1] | b[1])]
-            return one_circle_each(circles)
-    return circles
+    found = []
+    for centre, on in circles:
+        same = [c for c in found if c[0] == centre and c[1] & on]
+        found = [c for c in found if c not in same] + [(centre, on.union(*(c[1] for c in same)))]
+    circles[:] = found
 
 
 class Told:
-    """What commands say themselves: lines, circles (a centre and points), right angles (of two pairs of points)."""
+    """What commands say themselves, and what follows of it at once: lines, circles (a centre and points), and directions (each of pairs of
+    points, beside that of a quarter-turn)."""
 
     def __init__(self, commands):
-        self.lines, self.circles, self.rights = [], [], []
+        self.lines, self.circles, self.directions = [], [], []
         for word, name, args in commands:
             self.lines += [frozenset((name, args[i], args[j])) for i, j in ON_LINES.get(word, ())]
             self.circles += [(args[i], frozenset((name, args[j]))) for i, j in ON_CIRCLES.get(word, ())]
             if word in CENTRES:
                 self.circles.append((name, frozenset(args[i] for i in CENTRES[word])))
-            self.rights += [self.right(name, args, angle) for angle in RIGHT.get(word, ())]
-        one_line_each(self.lines)
+            for angle in RIGHT.get(word, ()):
+                self.join(*self.right(name, args, angle), True)
+            for pairs in PARALLEL.get(word, ()):
+                self.join(*(frozenset((name, *args)[k] for k in pair) for pair in pairs), False)
+        self.close()
+        self.follow({x for c in commands for x in (c.name, *names_in(c.args))}, commands)
+
+    def join(self, p, q, turned):
+        """Two pairs of points have one direction, or are at right angles."""
+        self.directions.append(({p}, {q}) if turned else ({p, q}, set()))
+
+    def close(self):
+        """Lines with two points in common are one, and parallels through one point; so are directions that have a line in common."""
+        size = None
+        while size != (len(self.lines), sum(map(len, self.lines)), len(self.directions)):
+            size = (len(self.lines), sum(map(len, self.lines)), len(self.directions))
+            one_line_each(self.lines)
+            one_circle_each(self.circles)
+            for one, other in combinations(self.directions, 2):
+                turns = [t for t in (0, 1) if any(self.is_same(p, q) for k in (0, 1) for p in one[k] for q in other[k ^ t])]
+                if turns:
+                    both = tuple(one[k] | other[k ^ turns[0]] for k in (0, 1))
+                    self.directions = [d for d in self.directions if d not in (one, other)] + [both]
+                    break
+            self.lines += [p | q for sides in self.directions for some in sides for p, q in combinations(some, 2) if p & q and not self.is_same(p, q)]
+
+    def follow(self, names, commands):
+        """Circles that follow: a point of a mirror is equally far from both sides of it, a right angle stands on a circle over its chord."""
+        middles = [(c.name, c.args[:2]) for c in commands if c.word == "midpoint"]
+        for word, x, a in commands:
+            if word == "reflect":
+                axis, chord = self.line_of(frozenset(a[1:])), self.line_of(frozenset((x, a[0])))
+                self.circles += [(o, frozenset((x, a[0]))) for o in axis]
+                middles += [(m, (x, a[0])) for m in axis & chord]
+                self.circles += [(o, frozenset((f, g))) for p in a[1:] for o in axis for f in self.feet_of(o, p, a[0]) for g in self.feet_of(o, p, x)]
+        for m, (a, b) in middles:
+            self.circles += [(m, frozenset((a, x))) for x in names - {a, b} if self.is_right(frozenset((x, a)), frozenset((x, b)))]
         one_circle_each(self.circles)
-        # two perpendiculars to one line through one point are one line
-        both = [(self.line_of(p), q) for right in self.rights for p, q in (right, right[::-1])]
-        self.lines += [p | r for (p, q), (r, s) in combinations(both, 2) if p != r and p & r and self.is_same(q, s)]
-        one_line_each(self.lines)
+
+    def feet_of(self, o, p, q):
+        """The points of the line PQ below O."""
+        line = frozenset((p, q))
+        return [f for f in self.line_of(line) if f != o and self.is_right(frozenset((o, f)), line)]
 
     @staticmethod
     def right(name, args, angle):
@@ -74,20 +112,26 @@ class Told:
 
     def is_right(self, p, q):
         """Whether the pairs of points are perpendicular, also by other points of their lines."""
-        return any(self.is_same(p, r) and self.is_same(q, s) or self.is_same(p, s) and self.is_same(q, r) for r, s in self.rights)
+        return any(self.has(one, p) and self.has(other, q) or self.has(one, q) and self.has(other, p) for one, other in self.directions)
+
+    def has(self, some, p):
+        return any(self.is_same(p, q) for q in some)
 
     def says(self, command):
-        """Whether what a construction says of lines, circles and right angles is told by these commands."""
+        """Whether what a construction says of lines, circles and directions is told by these commands."""
         word, x, a = command
-        lines = all(self.on_line(frozenset((x, a[i], a[j]))) for i, j in ON_LINES.get(word, ())) or word in CENTRES or word == "symmetric"
-        circles = all(self.on_circle(a[i], x, a[j]) for i, j in ON_CIRCLES.get(word, ())) or word == "symmetric"
-        if word == "circumcenter":
-            return self.on_circle(x, *a)
+        lines = all(self.on_line(frozenset((x, a[i], a[j]))) for i, j in ON_LINES.get(word, ()))
+        circles = all(self.on_circle(a[i], x, a[j]) for i, j in ON_CIRCLES.get(word, ()))
+        if word in CENTRES:
+            return lines and self.on_circle(x, *(a[i] for i in CENTRES[word]))
         if word == "foot":
             return lines and self.is_right(*self.right(x, a, RIGHT[word][0]))
         if word == "orthocenter":
             return sum(self.is_right(*self.right(x, a, angle)) for angle in RIGHT[word]) > 1
-        return word in ("lratio", "inverse") or lines and circles
+        if word == "translate":
+            pairs = [frozenset((x, *a)[k] for k in pair) for some in PARALLEL[word] for pair in some]
+            return all(any(self.has(d[k], p) and self.has(d[k], q) for d in self.directions for k in (0, 1)) for p, q in (pairs[:2], pairs[2:]))
+        return word in ("point", "online", "oncircle", "inter", "second", "cc", "reflect", "symmetric") and lines and circles
 
 
 class Relations:
@@ -100,13 +144,8 @@ class Relations:
             self.there.setdefault(at[x], []).append(x)
         self.lines, self.circles = self.true_lines(), self.true_circles()
         self.ratios = {n * inverse(d) % PRIME: self.number(n, d) for n, d in RATIOS}
-        self.program, self.known = Told(program), Told(program + added)
-        self.added = {c.name for c in added}
-        points = [({c.name, *(p for p in names_in(c.args) if p in at)}, c.word) for c in program]
-        self.whole = [p for p, word in points if word in WHOLE]
-        self.part = [p for p, word in points if word in PART]
-        self.feet = [Told.right(c.name, c.args, angle) for c in program if c.word == "foot" for angle in RIGHT["foot"]]
-        self.altitudes = [[Told.right(c.name, c.args, angle) for angle in RIGHT[c.word]] for c in program if c.word == "orthocenter"]
+        self.known, self.added = Told(program + added), {c.name for c in added}
+        self.pairs = {frozenset((c.args[i], c.args[j])) for c in program for i, j in ON_LINES.get(c.word, ())}
 
     @staticmethod
     def number(n, d):
@@ -136,15 +175,3 @@ class Relations:
 
     def circles_of(self, x):
         return [(o, on) for o, on in self.circles if x in on]
-
-    def load(self, x, left, rights):
-        """How many relations of the program bind X to the points that are left: two fix it."""
-        count = sum(1 for line in self.program.lines if x in line and len(line & left) > 2)
-        for o, on in self.program.circles:
-            k = len(on & left)
-            count += (x in on and o in left and k > 1) + (k - 1 if x == o and k > 1 else 0)
-        count += sum(2 for v in self.whole if x in v and v <= left) + sum(1 for v in self.part if x in v and v <= left)
-        for pair in rights:
-            a, b = (self.program.line_of(p) & left for p in pair)
-            count += len(a) > 1 and len(b) > 1 and (x in a and len(a) == 2 or x in b and len(b) == 2)
-        return count

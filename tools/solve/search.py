@@ -6,23 +6,24 @@ Nothing is believed of the search itself. A statement is told as false where `pl
 import random
 from collections import deque
 from concurrent.futures import ThreadPoolExecutor, TimeoutError
-from itertools import count
+from itertools import chain, count
 
 from auxiliary import FOR_SMALLER, POOLS, pool
-from frames import frames, smaller
+from frames import frames, smaller, touching_first
 from ground import Ground, Orders
-from prover import DONE, MOST
+from prover import CUT_OFF, DONE
 from residues import NoFigure
 from canonical import Names, program_text
 from figures import figure_where
 
-# The stages of a proof: its steps, its seconds of processor time, and how many of those that came farthest at the stage before get so far.
-STAGES = ((100_000_000, 1, 50), (100_000_000_000, 1, 5), (MOST, 4, 1))
-CITE_SECONDS = 3
+# The stages of a proof: its seconds of processor time, and how many of those that were cut off at the stage before get so far.
+STAGES = ((1, 30), (4, 2))
+CITE_SECONDS = 2
 # How many orders that come far go into frames, and into how many.
 FRAMED = 2
 # The parts of the time that frames, smaller statements, and one list of a round have.
-FRAMES_SHARE, SMALLER_SHARE, ROUND_SHARE = 1 / 6, 1 / 10, 1 / 8
+FRAMES_SHARE, SMALLER_SHARE, ROUND_SHARE = 1 / 10, 1 / 20, 1 / 8
+FIRST_ORDERS, FIRST_SHARE = 12, 1 / 30
 SAMPLES = 200
 SOLVED = "solved"
 
@@ -41,15 +42,21 @@ class Search:
             ground = Ground(self.book, self.statement, self.names, self.dice)
         except NoFigure:
             return
-        yield self.fitting(frames(ground, ground.commands, "frame", 6)), FRAMES_SHARE
+        framed = self.fitting(chain(touching_first(ground), frames(ground, ground.commands, "frame", 6)))
+        yield framed, FRAMES_SHARE
         for rules, most in FOR_SMALLER:
             wider = ground.with_added(pool(ground, rules, most)) if rules else ground
             yield self.fitting(smaller(wider, 40)), SMALLER_SHARE
         for k in count():
+            if k == len(POOLS):
+                again = [attempt for attempt in framed if attempt.outcome == CUT_OFF]
+                for attempt in again:
+                    attempt.stage = len(STAGES) - 1
+                yield again, FRAMES_SHARE
             rules, most = POOLS[k % len(POOLS)]
             added = pool(ground, rules, most)
             if not most or added:
-                yield from self.round(ground.with_added(added))
+                yield from self.round(ground.with_added(added), k < len(POOLS))
 
     def fitting(self, tries):
         """The tries that were not made before, without those that make no figure."""
@@ -66,17 +73,19 @@ class Search:
                 self.done.add(text)
                 found.append(attempt)
 
-    def round(self, ground):
-        """Orders of one ground, the lightest first with few steps; those that came farthest with more, and then in frames."""
-        some = self.fitting(iter(Orders(ground).batch(STAGES[0][2])))
+    def round(self, ground, is_first):
+        """Orders of one ground, the lightest first; and then in frames; those that came farthest with more time. The first rounds have a part of
+        these, so that all auxiliary points have their turn soon."""
+        size, share = (FIRST_ORDERS, FIRST_SHARE) if is_first else (STAGES[0][1], ROUND_SHARE)
+        some = self.fitting(iter(Orders(ground).batch(size)))
         framed = (attempt for t in some[:FRAMED] for attempt in frames(ground, t.own_form, "frame of an order", FRAMED))
-        for stage, (_, _, most) in enumerate(STAGES):
-            some = sorted((attempt for attempt in some if not attempt.log), key=lambda attempt: -attempt.far)[:most]
+        for stage, (_, most) in enumerate(STAGES[: 1 if is_first else None]):
+            some = sorted((t for t in some if stage == 0 or t.outcome == CUT_OFF and not t.log), key=lambda attempt: -attempt.far)[:most]
             for attempt in some:
                 attempt.stage = stage
-            yield some, ROUND_SHARE
+            yield some, share
             if stage == 0:
-                yield self.fitting(framed), ROUND_SHARE
+                yield self.fitting(framed), share
 
     def run(self):
         """The first formulation, in the order of the search, that is cited at a figure that there is; None: there is none."""
@@ -122,8 +131,7 @@ class Search:
 
     def prove_and_cite(self, attempt):
         """The try, with what came of it."""
-        steps, seconds, _ = STAGES[attempt.stage]
-        answer = self.prover.ask("prove", program_text(attempt.form, self.statement), seconds, steps)
+        answer = self.prover.ask("prove", program_text(attempt.form, self.statement), STAGES[attempt.stage][0])
         attempt.outcome = answer.last
         if answer.status != 0:
             attempt.far = answer.text.count("\n") / len(attempt.form)
