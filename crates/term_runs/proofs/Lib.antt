@@ -1,2 +1,4 @@
 pub mod Order
 pub mod Turns
+pub mod Scaled
+pub mod Doubled

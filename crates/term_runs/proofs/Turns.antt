@@ -82,7 +82,7 @@ counted : (c : ℤ) (n : ℕ) → coefficients.is_zero c ≡ false → CountsAs 
 counted c n some (inl h) = not_both (coefficients.is_zero c) (ap coefficients.is_zero h.0) some
 counted c n some (inr h) = h.1
 
-nonzero : (c : ℤ) → c ≢ pos 0 → coefficients.is_zero c ≡ false
+pub nonzero : (c : ℤ) → c ≢ pos 0 → coefficients.is_zero c ≡ false
 nonzero c some = go (coefficients.is_zero c) refl
   where
     go : (b : Bool) → coefficients.is_zero c ≡ b → b ≡ false

@@ -3,6 +3,7 @@
 #![tactic(auto)]
 
 mod merging;
+mod multiples;
 mod terms;
 
 pub use terms::Term;
