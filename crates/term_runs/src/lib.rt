@@ -2,8 +2,13 @@
 //! place, and products are sums of multiples.
 #![tactic(auto)]
 
+mod keyed;
 mod merging;
 mod multiples;
+mod room;
+mod runs;
 mod terms;
 
+pub use keyed::{Coefficient, Key, Keyed};
+pub use runs::Runs;
 pub use terms::Term;

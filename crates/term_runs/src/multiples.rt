@@ -47,7 +47,7 @@ pub(crate) fn put_two_multiples<T: Term>(first: T, second: T, list: &[T], room: 
     requires second_keys { AllKeys (λ j. (T.pair second).0 + j < T.keys) (map T.pair list.now) }
     requires norm { (unsigned_abs (T.pair first).1 + unsigned_abs (T.pair second).1)
         * norm_of (map T.pair list.now) < T.size }
-    ensures within { result ≤ length room.old }
+    ensures within { result ≤ 2 * length list.now }
     ensures sum { map T.pair (take result room.new)
         ≡ run_of (scaled (T.pair first).0 (T.pair first).1 (map T.pair list.now)
         ++ scaled (T.pair second).0 (T.pair second).1 (map T.pair list.now)) }
