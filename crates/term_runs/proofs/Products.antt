@@ -1,11 +1,12 @@
 -- Products of runs, part by part.
-use Rattle.std.proofs.Common.{◌≡◌, ℕ, ◌+◌, ◌*◌, ◌<◌, ◌≤◌, ℤ, List, [], ◌∷◌, ◌++◌, append_assoc, length, map, take, drop, refl, sym, ap, ap₂, subst, ◌∙◌, unsigned_abs, arith}
+use Rattle.std.proofs.Common.{◌≡◌, ℕ, ◌+◌, ◌*◌, ◌<◌, ◌≤◌, ℤ, pos, ◌+ℤ◌, ◌*ℤ◌, List, [], ◌∷◌, ◌++◌, append_assoc, length, map, take, drop, refl, sym, ap, ap₂, subst, ◌∙◌, unsigned_abs, arith}
 use Rattle.std.specs.Ordering.{flip_args, nat_cmp}
 use Rattle.std.specs.Prelude.{slice_range}
+use Rattle.std.proofs.lemmas.Int.{ints}
 use Rattle.std.proofs.lemmas.List.{append-nil, map-append, take-append-drop}
 use Rattle.std.proofs.lemmas.List.Sums.{sum_by-append, sum_by-cons}
-use Rattle.sparse_lists.specs.SparseLists.{AllKeys, IsBefore}
-use Rattle.sparse_lists.proofs.Canonical.{IsCanonical-canonical, canonical-canonical_left, canonical_comm, canonical_self}
+use Rattle.sparse_lists.specs.SparseLists.{AllKeys, IsBefore, amount}
+use Rattle.sparse_lists.proofs.Canonical.{IsCanonical-canonical, amount-append, canonical-canonical_left, canonical_comm, canonical_same, canonical_self}
 use Rattle.sparse_lists.proofs.Sums.{sum_by-canonical-le}
 use Rattle.poly_arena.specs.Chains.{Pairs, scaled}
 use Rattle.poly_arena.specs.Orders.{coefficients, sum_of}
@@ -79,6 +80,69 @@ pub one_product : (p : ℕ × ℤ) (rs : Pairs) → IsRun (p ∷ []) → IsRun r
 one_product p rs one run =
     sym (canonical_self (flip_args nat_cmp) coefficients falling coefficients_add (scaled p.0 p.1 rs) (scaled_run p.0 p.1 rs one.0 run))
     ∙ ap run_of (sym (append-nil (scaled p.0 p.1 rs)))
+
+-- THE OTHER WAY ROUND
+-- the coefficient at a key
+at : ℕ → Pairs → ℤ
+at k ps = amount (flip_args nat_cmp) coefficients k ps
+
+at-append : (k : ℕ) (ps qs : Pairs) → at k (ps ++ qs) ≡ at k ps +ℤ at k qs
+unfolding at
+at-append k ps qs = amount-append (flip_args nat_cmp) coefficients falling coefficients_add k ps qs
+
+times : ℕ × ℤ → ℕ × ℤ → ℕ × ℤ
+times p q = (p.0 + q.0, p.1 *ℤ q.1)
+
+turned_pair : (p q : ℕ × ℤ) → times p q ≡ times q p
+unfolding times
+turned_pair p q =
+    let keys : p.0 + q.0 ≡ q.0 + p.0 = omega arith in
+    let coefs : p.1 *ℤ q.1 ≡ q.1 *ℤ p.1 = omega (arith, ints) in
+    ap₂ (λ (k : ℕ) (c : ℤ). (k, c)) keys coefs
+
+-- a list times one more term
+at-products : (k : ℕ) (ps : Pairs) (q : ℕ × ℤ) (qs : Pairs) → at k (products ps (q ∷ qs)) ≡ at k (scaled q.0 q.1 ps) +ℤ at k (products ps qs)
+unfolding at times
+at-products k [] q qs = omega (arith, ints)
+at-products k (p ∷ ps) q qs =
+    let head : at k ((p.0 + q.0, p.1 *ℤ q.1) ∷ []) ≡ at k ((q.0 + p.0, q.1 *ℤ p.1) ∷ []) = ap (λ (t : ℕ × ℤ). at k (t ∷ [])) (turned_pair p q) in
+    omega (
+      arith,
+      ints,
+      head,
+      at-products k ps q qs,
+      at-append k (scaled p.0 p.1 (q ∷ qs)) (products ps (q ∷ qs)),
+      at-append k ((p.0 + q.0, p.1 *ℤ q.1) ∷ []) (scaled p.0 p.1 qs),
+      at-append k ((q.0 + p.0, q.1 *ℤ p.1) ∷ []) (scaled q.0 q.1 ps),
+      at-append k (scaled p.0 p.1 qs) (products ps qs),
+    )
+
+at-turned : (k : ℕ) (ps qs : Pairs) → at k (products ps qs) ≡ at k (products qs ps)
+unfolding at
+at-turned k ps [] = at-none ps
+  where
+    at-none : (rs : Pairs) → at k (products rs []) ≡ pos 0
+    at-none [] = refl
+    at-none (r ∷ rs) = at-none rs
+at-turned k ps (q ∷ qs) = omega (arith, ints, at-products k ps q qs, at-turned k ps qs, at-append k (scaled q.0 q.1 ps) (products qs ps))
+
+pub products_comm : (ps qs : Pairs) → run_of (products ps qs) ≡ run_of (products qs ps)
+unfolding at
+products_comm ps qs = canonical_same (flip_args nat_cmp) coefficients falling coefficients_add (products ps qs) (products qs ps) (λ k. at-turned k ps qs)
+
+keys_none : (keys : ℕ) (ps : Pairs) → KeysFit keys ps []
+keys_none keys [] = tt
+keys_none keys (p ∷ ps) = (tt, keys_none keys ps)
+
+keys_more : (keys : ℕ) (q : ℕ × ℤ) (ps qs : Pairs) → AllKeys (λ j. q.0 + j < keys) ps → KeysFit keys ps qs → KeysFit keys ps (q ∷ qs)
+keys_more keys q [] qs h g = tt
+keys_more keys q (p ∷ ps) qs h g =
+    let first : p.0 + q.0 < keys = omega (arith, h.0) in
+    ((first, g.0), keys_more keys q ps qs h.1 g.1)
+
+pub keys_comm : (keys : ℕ) (ps qs : Pairs) → KeysFit keys qs ps → KeysFit keys ps qs
+keys_comm keys ps [] h = keys_none keys ps
+keys_comm keys ps (q ∷ qs) h = keys_more keys q ps qs h.0 (keys_comm keys ps qs h.1)
 
 -- A LIST IN TWO PARTS
 pub halves : {X : Type 0} (left front back : List X) (n : ℕ) → front ≡ take n left → back ≡ drop n left → left ≡ front ++ back

@@ -136,7 +136,7 @@ impl<T: Term> Runs<T> {
 
     /// Puts the product of both runs behind the others, by halves of the left one, so that few terms
     /// are summed up often.
-    pub fn push_product(&mut self, left: &[T], right: &[T]) -> Result<(), AllocError>
+    fn push_by_halves(&mut self, left: &[T], right: &[T]) -> Result<(), AllocError>
         requires left { IsRun (map T.pair left.now) }
         requires right { IsRun (map T.pair right.now) }
         requires keys { KeysFit T.keys (map T.pair left.now) (map T.pair right.now) }
@@ -151,11 +151,61 @@ impl<T: Term> Runs<T> {
             _ => {
                 let (front, back) = left.split_at(left.len() / 2);
                 let base = self.len();
-                self.push_product(front, right)?;
+                self.push_by_halves(front, right)?;
                 let middle = self.len();
-                self.push_product(back, right)?;
+                self.push_by_halves(back, right)?;
                 self.join(base, middle)
             }
         }
+    }
+
+    /// Puts the product of both runs behind the others, by halves of the shorter one.
+    pub fn push_product(&mut self, left: &[T], right: &[T]) -> Result<(), AllocError>
+        requires left { IsRun (map T.pair left.now) }
+        requires right { IsRun (map T.pair right.now) }
+        requires keys { KeysFit T.keys (map T.pair left.now) (map T.pair right.now) }
+        requires norm { norm_of (map T.pair left.now) * norm_of (map T.pair right.now) < T.size }
+        ensures { OnOk result (self.new ≡ self.old
+            ++ run_of (products (map T.pair left.now) (map T.pair right.now))) }
+    {
+        if left.len() <= right.len() {
+            self.push_by_halves(left, right)
+        } else {
+            self.push_by_halves(right, left)
+        }
+    }
+
+    /// Puts a term behind the others.
+    pub fn push(&mut self, term: T) -> Result<(), AllocError>
+        ensures term { OnOk result (self.new ≡ self.old ++ T.pair term ∷ []) }
+        ensures err { OnErr result (self.new ≡ self.old) }
+    {
+        let place = self.count;
+        make_room(&mut self.items, place + 1)?;
+        self.items[place] = term;
+        self.count = place + 1;
+        Ok(())
+    }
+
+    /// Puts the product of the last run, which begins at the place, and of the other one in its
+    /// place. The last run is copied aside.
+    pub fn multiply(
+        &mut self,
+        aside: &mut Vec<T>,
+        base: usize,
+        factor: &[T],
+    ) -> Result<(), AllocError>
+        requires base { base ≤ length self.old }
+        requires run { IsRun (drop base self.old) }
+        requires factor { IsRun (map T.pair factor.now) }
+        requires keys { KeysFit T.keys (drop base self.old) (map T.pair factor.now) }
+        requires norm { norm_of (drop base self.old) * norm_of (map T.pair factor.now) < T.size }
+        ensures { OnOk result (self.new ≡ take base self.old
+            ++ run_of (products (drop base self.old) (map T.pair factor.now))) }
+    {
+        aside.clear();
+        aside.extend_from_slice(self.terms_from(base))?;
+        self.truncate(base);
+        self.push_product(aside.as_slice(), factor)
     }
 }

@@ -5,7 +5,7 @@ use Rattle.term_runs.specs.Runs.{IsRun, KeysFit, norm_of, products, run_of}
 use Rattle.term_runs.proofs.Parts.{one_item, two_items}
 use Rattle.term_runs.proofs.Products.{both_norms, halves, joined, joined_left, joined_right, left_keys, left_norm, left_part, one_product}
 use Rattle.term_runs.proofs.Products.{right_keys, right_norm, right_part, run_of-is, whole_product}
-use Rattle.term_runs.proofs.runs.Runs.+push_product.Goals as goal
+use Rattle.term_runs.proofs.runs.Runs.+push_by_halves.Goals as goal
 
 pub push_multiples-requires-clause-keys : goal.push_multiples-requires-clause-keys
 push_multiples-requires-clause-keys g t c =
@@ -35,8 +35,8 @@ returns-in-len1 g t c =
     subst (λ xs. OnOk c.push_multiples.result (c.push_multiples.new.self ≡ old ++ run_of (products (map f xs) (map f c.args.right.now)))) (sym is)
     (subst (λ ps. OnOk c.push_multiples.result (c.push_multiples.new.self ≡ old ++ ps)) product c.push_multiples.ensures.terms)
 
-pub push_product-requires : goal.push_product-requires
-push_product-requires g t c = λ κs below.
+pub push_by_halves-requires : goal.push_by_halves-requires
+push_by_halves-requires g t c = λ κs below.
     let f = g.T.Term.pair in
     let left = c.args.left.now in
     let front = c.split_at.result.0.now in
@@ -60,8 +60,8 @@ push_product-requires g t c = λ κs below.
       ),
     )
 
-pub push_product-requires-in_default : goal.push_product-requires-in_default
-push_product-requires-in_default g t c = λ κs below.
+pub push_by_halves-requires-in_default : goal.push_by_halves-requires-in_default
+push_by_halves-requires-in_default g t c = λ κs below.
     let f = g.T.Term.pair in
     let left = c.args.left.now in
     let front = c.split_at.result.0.now in
@@ -94,10 +94,10 @@ join-requires-clause-left g t c =
     let first = run_of (products (map f front) right) in
     let second = run_of (products (map f back) right) in
     let old = c.args.self.now in
-    let middle = c.push_product.new.self in
-    let last = c.push_product-in_default.new.self in
-    let put : middle ≡ old ++ first = c.in_ok-push_product-in_default.ensures in
-    let again : last ≡ middle ++ second = c.in_ok-push_product-in_default-2.ensures in
+    let middle = c.push_by_halves.new.self in
+    let last = c.push_by_halves-in_default.new.self in
+    let put : middle ≡ old ++ first = c.in_ok-push_by_halves-in_default.ensures in
+    let again : last ≡ middle ++ second = c.in_ok-push_by_halves-in_default-2.ensures in
     subst IsRun (sym (joined_left old middle last first second c.len-base.result c.len-middle.result c.len-base.ensures c.len-middle.ensures put again))
     (run_of-is (products (map f front) right))
 
@@ -110,10 +110,10 @@ join-requires-clause-right g t c =
     let first = run_of (products (map f front) right) in
     let second = run_of (products (map f back) right) in
     let old = c.args.self.now in
-    let middle = c.push_product.new.self in
-    let last = c.push_product-in_default.new.self in
-    let put : middle ≡ old ++ first = c.in_ok-push_product-in_default.ensures in
-    let again : last ≡ middle ++ second = c.in_ok-push_product-in_default-2.ensures in
+    let middle = c.push_by_halves.new.self in
+    let last = c.push_by_halves-in_default.new.self in
+    let put : middle ≡ old ++ first = c.in_ok-push_by_halves-in_default.ensures in
+    let again : last ≡ middle ++ second = c.in_ok-push_by_halves-in_default-2.ensures in
     subst IsRun (sym (joined_right old middle last first second c.len-base.result c.len-middle.result c.len-base.ensures c.len-middle.ensures put again))
     (run_of-is (products (map f back) right))
 
@@ -126,10 +126,10 @@ join-requires-clause-fits g t c =
     let first = run_of (products (map f front) right) in
     let second = run_of (products (map f back) right) in
     let old = c.args.self.now in
-    let middle = c.push_product.new.self in
-    let last = c.push_product-in_default.new.self in
-    let put : middle ≡ old ++ first = c.in_ok-push_product-in_default.ensures in
-    let again : last ≡ middle ++ second = c.in_ok-push_product-in_default-2.ensures in
+    let middle = c.push_by_halves.new.self in
+    let last = c.push_by_halves-in_default.new.self in
+    let put : middle ≡ old ++ first = c.in_ok-push_by_halves-in_default.ensures in
+    let again : last ≡ middle ++ second = c.in_ok-push_by_halves-in_default-2.ensures in
     let parts = halves c.args.left.now front back (length c.args.left.now / 2) c.split_at.ensures.front c.split_at.ensures.back in
     omega (
       arith,
@@ -138,8 +138,8 @@ join-requires-clause-fits g t c =
       both_norms f c.args.left.now front back parts right g.T.Term.size c.requires.norm,
     )
 
-pub returns-in_ok-push_product-in_default-2 : goal.returns-in_ok-push_product-in_default-2
-returns-in_ok-push_product-in_default-2 g t c =
+pub returns-in_ok-push_by_halves-in_default-2 : goal.returns-in_ok-push_by_halves-in_default-2
+returns-in_ok-push_by_halves-in_default-2 g t c =
     let f = g.T.Term.pair in
     let front = c.split_at.result.0.now in
     let back = c.split_at.result.1.now in
@@ -147,10 +147,10 @@ returns-in_ok-push_product-in_default-2 g t c =
     let first = run_of (products (map f front) right) in
     let second = run_of (products (map f back) right) in
     let old = c.args.self.now in
-    let middle = c.push_product.new.self in
-    let last = c.push_product-in_default.new.self in
-    let put : middle ≡ old ++ first = c.in_ok-push_product-in_default.ensures in
-    let again : last ≡ middle ++ second = c.in_ok-push_product-in_default-2.ensures in
+    let middle = c.push_by_halves.new.self in
+    let last = c.push_by_halves-in_default.new.self in
+    let put : middle ≡ old ++ first = c.in_ok-push_by_halves-in_default.ensures in
+    let again : last ≡ middle ++ second = c.in_ok-push_by_halves-in_default-2.ensures in
     let parts = halves c.args.left.now front back (length c.args.left.now / 2) c.split_at.ensures.front c.split_at.ensures.back in
     subst (λ ps. OnOk c.join.result (c.join.new.self ≡ ps))
     (joined old middle last first second c.len-base.result c.len-middle.result c.len-base.ensures c.len-middle.ensures put again
