@@ -47,7 +47,7 @@ module _ {X : Type 0} (f : X → ℕ × ℤ) (first second : ℕ × ℤ) (list :
     rs_in : j < length rs
     rs_in = omega (arith, right_length)
 
-    pub two_fit : (size : ℕ) → (unsigned_abs first.1 + unsigned_abs second.1) * norm_of (map f list) < size → unsigned_abs ((f x).1 +ℤ (f y).1) < size
+    pub two_fit : (size : ℕ) → (unsigned_abs first.1 + unsigned_abs second.1) * norm_of (map f list) < size → unsigned_abs (f x).1 + unsigned_abs (f y).1 < size
     two_fit size fits =
         sum_fits ls rs left_run right_run i j (f x) (f y) ls_in rs_in left_at right_at size
         (omega (arith, norm_of-scaled first.0 first.1 (map f list), norm_of-scaled second.0 second.1 (map f list)))

@@ -46,7 +46,7 @@ read_right f room old gap j u within same unread is =
     let there : gap + j < length old = omega arith in
     let right : j < length (drop gap old) = omega (arith, length-drop gap old) in
     let heads : get_or room (gap + j) u ≡ get_or old (gap + j) u =
-        ap (λ (l : List _). get_or l 0 u) (sym (drop_more room (gap + j) u within) ∙ unread ∙ drop_more old (gap + j) u there) in
+    ap (λ (l : List _). get_or l 0 u) (sym (drop_more room (gap + j) u within) ∙ unread ∙ drop_more old (gap + j) u there) in
     sym (get_or-map f (drop gap old) j u (f u) right ∙ ap f (get_or-drop gap old j u ∙ sym heads ∙ sym is))
 
 pub read_left : {X : Type 0} (f : X → ℕ × ℤ) (left : List X) (i : ℕ) (t : X) → i < length left → t ≡ get_or left i t → f t ≡ get_or (map f left) i (f t)
@@ -91,9 +91,9 @@ nonzero c some = go (coefficients.is_zero c) refl
 
 module _ (ls rs : Pairs) (left : IsRun ls) (right : IsRun rs) (i j : ℕ) (t u : ℕ × ℤ) (left_in : i < length ls) (right_in : j < length rs)
     (t-is : t ≡ get_or ls i t) (u-is : u ≡ get_or rs j u) where
-  -- the sum of equal keys fits
-  pub sum_fits : (size : ℕ) → norm_of ls + norm_of rs < size → unsigned_abs (t.1 +ℤ u.1) < size
-  sum_fits size fits = omega (arith, unsigned_abs-add-le t.1 u.1, coefficient-le ls i t left_in t-is, coefficient-le rs j u right_in u-is)
+  -- what may be added up fits
+  pub sum_fits : (size : ℕ) → norm_of ls + norm_of rs < size → unsigned_abs t.1 + unsigned_abs u.1 < size
+  sum_fits size fits = omega (arith, coefficient-le ls i t left_in t-is, coefficient-le rs j u right_in u-is)
 
   module _ (out goal : Pairs) (p : ℕ × ℤ) (dl dr n : ℕ) (turn : IsTurn t u p dl dr) (counts : CountsAs p.1 n)
       (kept : out ++ run_of (drop i ls ++ drop j rs) ≡ goal) where
@@ -151,7 +151,7 @@ module _ (ls rs : Pairs) (left : IsRun ls) (right : IsRun rs) (i j : ℕ) (t u :
         let a-is : i + dl ≡ i + 1 = omega (arith, r.1) in
         let b-is : j + dr ≡ j + 1 = omega (arith, r.2) in
         let there : coefficients.is_zero (t.1 +ℤ u.1) ≡ false =
-            ap (λ (q : ℕ × ℤ). coefficients.is_zero q.1) (sym r.0) ∙ nonzero p.1 some in
+        ap (λ (q : ℕ × ℤ). coefficients.is_zero q.1) (sym r.0) ∙ nonzero p.1 some in
         alike (t.0, t.1 +ℤ u.1) 1 (i + 1) (j + 1) r.0 n-is a-is b-is
         ∙ kept_equal (flip_args nat_cmp) coefficients falling coefficients_add ls rs i j t u left_in right_in t-is u-is left right out goal e there kept
 
@@ -186,7 +186,7 @@ module _ {X : Type 0} (f : X → ℕ × ℤ) (left room old : List X) (i j k : �
   us : f u ≡ get_or rs j (f u)
   us = read_right f room old (length left) j u right_in same unread u-is
 
-  pub room_fits : (size : ℕ) → norm_of ls + norm_of rs < size → unsigned_abs ((f t).1 +ℤ (f u).1) < size
+  pub room_fits : (size : ℕ) → norm_of ls + norm_of rs < size → unsigned_abs (f t).1 + unsigned_abs (f u).1 < size
   room_fits size fits = sum_fits ls rs left_run right_run i j (f t) (f u) ls_in rs_in ts us size fits
 
   module _ (x : X) (dl dr n : ℕ) (turn : IsTurn (f t) (f u) (f x) dl dr) (counts : CountsAs (f x).1 n) (few : k ≤ i + j) where

@@ -1,7 +1,7 @@
 //! Terms whose keys and coefficients are numbers of 64 or 128 bits.
 
 ghost use Rattle.std.specs.Prelude.{◌≡◌, ◌+◌, ◌<◌, ◌↔◌, ◌+ℤ◌, ◌*ℤ◌, ◌^◌, ℕ, ℤ, IsTrue, pos};
-ghost use Rattle.std.specs.Prelude.{unsigned_abs};
+ghost use Rattle.std.specs.Prelude.{false, true, unsigned_abs};
 
 use crate::terms::Term;
 
@@ -81,10 +81,12 @@ pub trait Coefficient: Copy + Drop {
     fn is_zero(self) -> bool
         ensures { IsTrue result ↔ (value self ≡ pos 0) };
 
-    /// The sum.
-    fn plus(self, other: Self) -> Self
-        requires { unsigned_abs (value self +ℤ value other) < most }
-        ensures { value result ≡ value self +ℤ value other };
+    /// The sum of those that are taken.
+    fn taken(self, other: Self, left: bool, right: bool) -> Self
+        requires { unsigned_abs (value self) + unsigned_abs (value other) < most }
+        ensures left { left ≡ true → right ≡ false → value result ≡ value self }
+        ensures right { left ≡ false → right ≡ true → value result ≡ value other }
+        ensures both { left ≡ true → right ≡ true → value result ≡ value self +ℤ value other };
 
     /// The product.
     fn times(self, other: Self) -> Self
@@ -108,8 +110,10 @@ impl Coefficient for i64 {
     }
 
     #[inline(always)]
-    fn plus(self, other: i64) -> i64 {
-        self + other
+    fn taken(self, other: i64, left: bool, right: bool) -> i64 {
+        let first = if left { self } else { 0 };
+        let second = if right { other } else { 0 };
+        first + second
     }
 
     #[inline(always)]
@@ -134,8 +138,10 @@ impl Coefficient for i128 {
     }
 
     #[inline(always)]
-    fn plus(self, other: i128) -> i128 {
-        self + other
+    fn taken(self, other: i128, left: bool, right: bool) -> i128 {
+        let first = if left { self } else { 0 };
+        let second = if right { other } else { 0 };
+        first + second
     }
 
     #[inline(always)]
@@ -177,10 +183,10 @@ impl<K: Key, C: Coefficient> Term for Keyed<K, C> {
     }
 
     #[inline(always)]
-    fn plus(self, other: Keyed<K, C>) -> Keyed<K, C> {
+    fn taken(self, other: Keyed<K, C>, left: bool, right: bool) -> Keyed<K, C> {
         Keyed {
-            key: self.key,
-            coefficient: self.coefficient.plus(other.coefficient),
+            key: if left { self.key } else { other.key },
+            coefficient: self.coefficient.taken(other.coefficient, left, right),
         }
     }
 

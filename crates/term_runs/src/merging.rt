@@ -1,6 +1,6 @@
 //! The sum of two runs, in the place of the second.
 
-ghost use Rattle.std.specs.Prelude.{◌≡◌, ◌+◌, ◌<◌, ◌≤◌, ◌^◌, ◌++◌, ◌+ℤ◌, drop, length, map, take};
+ghost use Rattle.std.specs.Prelude.{◌≡◌, ◌+◌, ◌<◌, ◌≤◌, ◌^◌, ◌++◌, drop, length, map, take};
 ghost use Rattle.std.specs.Prelude.{unsigned_abs};
 ghost use Rattle.std.specs.Ordering.{nat_cmp};
 ghost use Rattle.poly_arena.specs.Orders.{sum_of};
@@ -20,28 +20,15 @@ pub(crate) struct Turn<T: Term> {
 /// The next term, where these are the first ones of both runs.
 #[inline(always)]
 pub(crate) fn next_turn<T: Term>(left: T, right: T) -> Turn<T>
-    requires { (T.pair left).0 ≡ (T.pair right).0
-        → unsigned_abs ((T.pair left).1 +ℤ (T.pair right).1) < T.size }
+    requires { unsigned_abs (T.pair left).1 + unsigned_abs (T.pair right).1 < T.size }
     ensures { IsTurn (T.pair left) (T.pair right) (T.pair result.term) result.left result.right }
 {
-    if right.is_before(left) {
-        return Turn {
-            term: right,
-            left: 0,
-            right: 1,
-        };
-    }
-    if left.is_before(right) {
-        return Turn {
-            term: left,
-            left: 1,
-            right: 0,
-        };
-    }
+    let is_left = !right.is_before(left);
+    let is_right = !left.is_before(right);
     Turn {
-        term: left.plus(right),
-        left: 1,
-        right: 1,
+        term: left.taken(right, is_left, is_right),
+        left: is_left as usize,
+        right: is_right as usize,
     }
 }
 

@@ -80,12 +80,7 @@ pub(crate) fn join_parts<T: Term>(
 {
     spare.clear();
     spare.extend_from_slice(&items[base..middle])?;
-    Ok(merge_at(
-        spare.as_slice(),
-        items.as_mut_slice(),
-        base,
-        end,
-    ))
+    Ok(merge_at(spare.as_slice(), items.as_mut_slice(), base, end))
 }
 
 /// Puts the sum of the run times both terms behind the first terms, so many. It answers where the

@@ -86,12 +86,7 @@ impl<T: Term> Runs<T> {
     }
 
     /// Puts the sum of the run times both terms behind the others.
-    pub fn push_two_multiples(
-        &mut self,
-        first: T,
-        second: T,
-        list: &[T],
-    ) -> Result<(), AllocError>
+    pub fn push_two_multiples(&mut self, first: T, second: T, list: &[T]) -> Result<(), AllocError>
         requires run { IsRun (map T.pair list.now) }
         requires first_some { (T.pair first).1 ≢ pos 0 }
         requires second_some { (T.pair second).1 ≢ pos 0 }
@@ -106,7 +101,10 @@ impl<T: Term> Runs<T> {
             ++ scaled (T.pair second).0 (T.pair second).1 (map T.pair list.now))) }
         ensures err { OnErr result (self.new ≡ self.old) }
     {
-        let end = self.count.saturating_add(list.len()).saturating_add(list.len());
+        let end = self
+            .count
+            .saturating_add(list.len())
+            .saturating_add(list.len());
         make_room(&mut self.items, end)?;
         self.count = two_multiples_at(first, second, list, self.items.as_mut_slice(), self.count);
         Ok(())
@@ -124,13 +122,7 @@ impl<T: Term> Runs<T> {
             ++ sum_of nat_cmp (slice_range self.old base middle) (drop middle self.old)) }
         ensures err { OnErr result (self.new ≡ self.old) }
     {
-        self.count = join_parts(
-            &mut self.items,
-            &mut self.spare,
-            base,
-            middle,
-            self.count,
-        )?;
+        self.count = join_parts(&mut self.items, &mut self.spare, base, middle, self.count)?;
         Ok(())
     }
 

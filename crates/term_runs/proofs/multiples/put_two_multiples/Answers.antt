@@ -35,7 +35,7 @@ times-requires-in-loop-i-clause-coefficient g c =
     (second_within (unsigned_abs (f c.args.first).1) (unsigned_abs (f c.args.second).1) (norm_of (map f c.args.list.now)) g.T.Term.size c.requires.norm)
 
 pub next_turn-turn-requires : goal.next_turn-turn-requires
-next_turn-turn-requires g c = λ _.
+next_turn-turn-requires g c =
     let f = g.T.Term.pair in
     two_fit f (f c.args.first) (f c.args.second) c.args.list.now c.requires.run c.requires.first_some c.requires.second_some c.loop-i.i c.loop-i.j
     c.index-list-i.result c.index-list-j.result c.times.result c.times-in-loop-i.result c.loop-i-test.true c.if-j-count.true c.index-list-i.is c.index-list-j.is
@@ -52,8 +52,8 @@ loop-i-preserved g c =
     let z = c.next_turn-turn.result.term in
     let enough : 2 * length list ≤ length c.loop-i.room = omega (arith, c.requires.room, c.loop-i.auto.room) in
     let steps = two_steps f (f c.args.first) (f c.args.second) list c.requires.run c.requires.first_some c.requires.second_some c.loop-i.i c.loop-i.j
-        c.index-list-i.result c.index-list-j.result c.times.result c.times-in-loop-i.result c.loop-i-test.true c.if-j-count.true c.index-list-i.is c.index-list-j.is
-        c.times.ensures c.times-in-loop-i.ensures c.loop-i.room c.loop-i.k z dl dr n c.next_turn-turn.ensures c.count_of-k.ensures inv.few enough in
+    c.index-list-i.result c.index-list-j.result c.times.result c.times-in-loop-i.result c.loop-i-test.true c.if-j-count.true c.index-list-i.is c.index-list-j.is
+    c.times.ensures c.times-in-loop-i.ensures c.loop-i.room c.loop-i.k z dl dr n c.next_turn-turn.ensures c.count_of-k.ensures inv.few enough in
     record {
       left = omega (arith, c.loop-i-test.true, steps.left_one);
       right = omega (arith, c.if-j-count.true, steps.right_one);
@@ -70,10 +70,10 @@ returns-clause-sum g c =
     let list = c.args.list.now in
     let whole = run_of (scaled (f c.args.first).0 (f c.args.first).1 (map f list) ++ scaled (f c.args.second).0 (f c.args.second).1 (map f list)) in
     let past : (length list ≤ c.loop-i.i) ⊎ (length list ≤ c.loop-i.j) =
-        elim c.loop-i-test.branch [
-          | then-loop-i-test+else-j-count w ↦ inr w.if-j-count.false
-          | else-loop-i-test w ↦ inl w.loop-i-test.false
-        ] in
+    elim c.loop-i-test.branch [
+      | then-loop-i-test+else-j-count w ↦ inr w.if-j-count.false
+      | else-loop-i-test w ↦ inl w.loop-i-test.false
+    ] in
     c.put_multiples.ensures.terms
     ∙ ap (λ ps. ps ++ drop c.loop-i.j (scaled (f c.args.second).0 (f c.args.second).1 (map f list))) c.put_multiples-k.ensures.terms
     ∙ two_rest f (f c.args.first) (f c.args.second) list c.requires.run c.requires.first_some c.requires.second_some c.loop-i.i c.loop-i.j

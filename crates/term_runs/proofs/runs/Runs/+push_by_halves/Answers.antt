@@ -42,8 +42,7 @@ push_by_halves-requires g t c = λ κs below.
     let front = c.split_at.result.0.now in
     let back = c.split_at.result.1.now in
     let parts = halves left front back (length left / 2) c.split_at.ensures.front c.split_at.ensures.back in
-    let right = map f c.args.right.now in
-    (
+    let right = map f c.args.right.now in (
       search rules,
       (
         below,
@@ -67,8 +66,7 @@ push_by_halves-requires-in_default g t c = λ κs below.
     let front = c.split_at.result.0.now in
     let back = c.split_at.result.1.now in
     let parts = halves left front back (length left / 2) c.split_at.ensures.front c.split_at.ensures.back in
-    let right = map f c.args.right.now in
-    (
+    let right = map f c.args.right.now in (
       search rules,
       (
         below,
