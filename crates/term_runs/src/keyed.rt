@@ -111,9 +111,9 @@ impl Coefficient for i64 {
 
     #[inline(always)]
     fn taken(self, other: i64, left: bool, right: bool) -> i64 {
-        let first = if left { self } else { 0 };
-        let second = if right { other } else { 0 };
-        first + second
+        let sum = self + other;
+        let one = if left { self } else { other };
+        if left && right { sum } else { one }
     }
 
     #[inline(always)]
@@ -139,9 +139,9 @@ impl Coefficient for i128 {
 
     #[inline(always)]
     fn taken(self, other: i128, left: bool, right: bool) -> i128 {
-        let first = if left { self } else { 0 };
-        let second = if right { other } else { 0 };
-        first + second
+        let sum = self + other;
+        let one = if left { self } else { other };
+        if left && right { sum } else { one }
     }
 
     #[inline(always)]
