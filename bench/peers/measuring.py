@@ -1,5 +1,6 @@
 # SPDX-License-Identifier: Apache-2.0
-"""Runs the prover and its peers on the listed theorems, one process at a time, and keeps each result at once."""
+"""Runs the prover and its peers on the listed theorems, each run a process of its own, and keeps each result at once."""
+import concurrent.futures
 import datetime
 import hashlib
 import os
@@ -10,6 +11,7 @@ import shutil
 import subprocess
 import sys
 import tempfile
+import threading
 
 import limits
 import theorems
@@ -32,6 +34,7 @@ class Table:
     def __init__(self, path, seconds, megabytes):
         self.path, self.seconds, self.megabytes = path, seconds, megabytes
         self.known = set()
+        self.turn = threading.Lock()
         if path.exists():
             lines = path.read_text().splitlines()
             if f"# limits {seconds} {megabytes}" not in lines:
@@ -44,13 +47,15 @@ class Table:
         return key in self.known
 
     def add(self, *row):
-        with self.path.open("a") as file:
-            file.write("\t".join(map(str, row)) + "\n")
+        self.write("\t".join(map(str, row)))
         self.known.add(tuple(row[:3]))
 
     def note(self, text):
-        with self.path.open("a") as file:
-            file.write(f"# {text}\n")
+        self.write(f"# {text}")
+
+    def write(self, line):
+        with self.turn, self.path.open("a") as file:
+            file.write(line + "\n")
 
 
 def measured(command, folder, table, start, source=os.devnull):
@@ -119,45 +124,73 @@ def version(prover):
     return told.stdout if told.returncode == 0 else "not a Debian package"
 
 
-def describe(table, binary, provers):
-    """Notes when, where, and with which versions this run measures."""
+def describe(table, binary, provers, jobs):
+    """Notes when, where, and with which versions this run measures which provers."""
     processor = next((line.split(":")[1].strip() for line in open("/proc/cpuinfo") if line.startswith("model name")), platform.machine())
     load = os.getloadavg()[0]
     date = datetime.datetime.now(datetime.timezone.utc).strftime("%Y-%m-%d %H:%M")
-    table.note(f"run {date} UTC; {processor}, {os.cpu_count()} processors, load {load:.1f}")
+    machine = f"{processor}, {os.cpu_count()} processors, load {load:.1f} before it"
+    titles = ", ".join(["Jarduzki", *(prover.title for prover in provers)])
+    table.note(f"run {date} UTC; {machine}; {titles}; {jobs} at once")
     table.note(f"program {hashlib.sha256(pathlib.Path(binary).read_bytes()).hexdigest()}")
     for prover in provers:
         table.note(f"version {prover.key} {prover.package} {version(prover)}")
 
 
-def measure(binary, keys, seconds, megabytes, rows, frames=FRAMES):
-    """All rows that are not there yet; HOL Light last, in one session."""
-    table = Table(RESULTS, seconds, megabytes)
-    provers = present(keys)
-    describe(table, binary, provers)
-    session = [prover for prover in provers if prover.key == "hol"]
+def own_row(table, binary, start, row):
+    """The program's row on a theorem."""
+    with tempfile.TemporaryDirectory() as folder:
+        word, used, most = own(binary, row, folder, table, start)
+    table.add(row.name, "jarduzki", "full", word, f"{used:.4f}", f"{start:.4f}", f"{most:.1f}")
+
+
+def peer_row(table, prover, start, row, frame):
+    """A prover's row on a theorem in a frame."""
+    with tempfile.TemporaryDirectory() as folder:
+        word, used, most = ask(prover, translated(row.path.read_text(), frame), folder, table, start)
+    table.add(row.name, prover.key, frame, word, f"{used:.3f}", f"{start:.3f}", f"{most:.1f}")
+
+
+def missing(table, binary, provers, rows, frames):
+    """The calls that measure what the table has not; HOL Light's first, which takes longest."""
+    sessions = [prover for prover in provers if prover.key == "hol"]
     provers = [prover for prover in provers if prover.key != "hol"]
     with tempfile.TemporaryDirectory() as folder:
         start = starts(binary, provers, folder, table)
-        for row in rows:
-            if not table.has(row.name, "jarduzki", "full"):
-                word, used, most = own(binary, row, folder, table, start["jarduzki"])
-                table.add(row.name, "jarduzki", "full", word, f"{used:.4f}", f"{start['jarduzki']:.4f}", f"{most:.1f}")
-            for frame in frames:
-                missing = [prover for prover in provers if not table.has(row.name, prover.key, frame)]
-                theorem = translated(row.path.read_text(), frame) if missing else None
-                for prover in missing:
-                    word, used, most = ask(prover, theorem, folder, table, start[prover.key])
-                    table.add(row.name, prover.key, frame, word, f"{used:.3f}", f"{start[prover.key]:.3f}", f"{most:.1f}")
-        if session:
-            hol_session(session[0], rows, frames, folder, table)
+    calls = [(hol_session, prover, rows, frames, table) for prover in sessions]
+    for row in rows:
+        if not table.has(row.name, "jarduzki", "full"):
+            calls.append((own_row, table, binary, start["jarduzki"], row))
+        wanted = [(prover, frame) for frame in frames for prover in provers if not table.has(row.name, prover.key, frame)]
+        calls += [(peer_row, table, prover, start[prover.key], row, frame) for prover, frame in wanted]
+    return calls
 
 
-def hol_session(prover, rows, frames, folder, table):
+def measure(binary, keys, limit, rows, frames=FRAMES, jobs=1):
+    """All rows that are not there yet, so many at once; the limit is of seconds and megabytes."""
+    table = Table(RESULTS, *limit)
+    provers = present(keys)
+    describe(table, binary, provers, jobs)
+    with concurrent.futures.ThreadPoolExecutor(jobs) as lanes:
+        runs = [lanes.submit(*call) for call in missing(table, binary, provers, rows, frames)]
+        try:
+            for run in concurrent.futures.as_completed(runs):
+                run.result()
+        except BaseException:
+            lanes.shutdown(cancel_futures=True)
+            raise
+
+
+def hol_session(prover, rows, frames, table):
     """HOL Light starts in minutes, so one session has all theorems, each in a process of its own."""
     asked = [(row, frame) for row in rows for frame in frames if not table.has(row.name, prover.key, frame)]
-    if not asked:
-        return
+    if asked:
+        with tempfile.TemporaryDirectory() as folder:
+            hol_rows(prover, asked, folder, table)
+
+
+def hol_rows(prover, asked, folder, table):
+    """A row for each theorem in a frame that is asked."""
     found, told = pathlib.Path(folder) / "rows", pathlib.Path(folder) / "told"
     text = f'#use "{theorems.HERE / "hol.ml"}";;\n'
     for k, (row, frame) in enumerate(asked):

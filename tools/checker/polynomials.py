@@ -18,15 +18,20 @@ def variable(name, sign=1):
     return {((name, 1),): sign}
 
 
+def add_term(total, monomial, coefficient):
+    """Adds a term, not 0, in place."""
+    amount = total.get(monomial, 0) + coefficient
+    if amount:
+        total[monomial] = amount
+    else:
+        del total[monomial]
+
+
 def combined(left, right, factor):
     """left + factor right"""
     total = dict(left)
     for monomial, coefficient in right.items():
-        amount = total.get(monomial, 0) + factor * coefficient
-        if amount:
-            total[monomial] = amount
-        else:
-            del total[monomial]
+        add_term(total, monomial, factor * coefficient)
     return total
 
 
@@ -52,12 +57,7 @@ def times(left, right):
     total = {}
     for monomial, coefficient in left.items():
         for other, amount in right.items():
-            both = joined(monomial, other)
-            amount = total.get(both, 0) + coefficient * amount
-            if amount:
-                total[both] = amount
-            else:
-                del total[both]
+            add_term(total, joined(monomial, other), coefficient * amount)
     return total
 
 
