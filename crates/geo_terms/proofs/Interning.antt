@@ -5,8 +5,8 @@ use Rattle.std.specs.List.{list_any}
 use Rattle.std.proofs.lemmas.List.{length_push}
 use Rattle.std.proofs.lemmas.List.Folds.{list_any_at}
 use Rattle.std.proofs.lemmas.Option.{get_or_from_slice_get, slice_get_within}
-use Rattle.indexmap.specs.IndexSet.{insert_key}
-use Rattle.indexmap.proofs.CallerLemmas.{Contains-list_any}
+use Rattle.first_seen.specs.Keys.{with_key}
+use Rattle.first_seen.proofs.Members.{Contains-list_any}
 use Rattle.geo_points.specs.declared.ids.TermId.{TermId}
 use Rattle.geo_terms.specs.declared.nodes.Node.{Node}
 use Rattle.geo_terms.specs.Stores.{Store, HasChildrenBelow, HasShortInteger, IsStore, node_tree, trees_of, tree_of}
@@ -73,13 +73,13 @@ pub data IsInterned (old : Store) (node : Node) : Store → Type 0 where
   known : Contains old node → IsInterned old node old
   added : (Contains old node → ⊥) → IsInterned old node (old ++ node ∷ [])
 
--- by an `==` that is equality
+-- by a comparison that is equality
 module _ (eq : Node → Node → Bool) (same : (x y : Node) → eq x y ≡ true → x ≡ y) (self : (x : Node) → eq x x ≡ true) where
   absent : (nodes : Store) (node : Node) → list_any (eq node) nodes ≡ false → Contains nodes node → ⊥
   absent nodes node none found =
       true≢false (sym (list_any_at (eq node) nodes found.0 node found.1 (ap (eq node) found.2 ∙ self node)) ∙ none)
 
-  pub interned : (old : Store) (node : Node) → IsInterned old node (insert_key eq old node)
+  pub interned : (old : Store) (node : Node) → IsInterned old node (with_key eq old node)
   interned old node = by (list_any (eq node) old) refl
     where
       by : (found : Bool) → list_any (eq node) old ≡ found → IsInterned old node (if found then old else old ++ node ∷ [])

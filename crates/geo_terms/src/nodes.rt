@@ -3,7 +3,7 @@
 use geo_points::{ParamId, PointId, TermId};
 
 /// A term over its parts, which are named by their indices in the store.
-#[derive(Clone, Copy, Debug, PartialEq, Eq, Hash)]
+#[derive(Clone, Copy, Debug, PartialEq, Eq, PartialOrd, Ord)]
 pub enum Node {
     /// A whole number.
     Int(i128),

@@ -7,15 +7,15 @@ ghost use Rattle.geo_terms.specs.Stores.{HasChildrenBelow, HasShortInteger, IsSt
 ghost use Rattle.geo_terms.specs.Stores.{tree_of, trees_of};
 
 use crate::nodes::Node;
+use first_seen::FirstSeen;
 use geo_points::{NoMemory, TermId};
-use indexmap::IndexSet;
 use std::alloc::Global;
 use std::marker::Model;
 
 /// Terms by index: a list of nodes, each once, whose children stand at lower indices. So each index
 /// stands for a finite tree, and equal terms have equal indices.
 pub struct Terms {
-    nodes: IndexSet<Node>,
+    nodes: FirstSeen<Node>,
 }
 
 /// By hand, so that a caller's proof sees one call where a store is let go.
@@ -30,9 +30,9 @@ impl Model for Terms {
 
     ghost Value = { Store };
 
-    ghost view = { λ terms. terms.nodes.keys };
+    ghost view = { λ terms. terms.nodes };
 
-    ghost invariant = { λ terms. IsStore terms.nodes.keys };
+    ghost invariant = { λ terms. IsStore terms.nodes };
 }
 
 impl Terms {
@@ -41,7 +41,7 @@ impl Terms {
         ensures { IfOk result (λ terms. terms ≡ []) }
     {
         Ok(Terms {
-            nodes: IndexSet::new(alloc),
+            nodes: FirstSeen::new(alloc),
         })
     }
 
@@ -50,7 +50,7 @@ impl Terms {
         ensures { IfOk result (λ terms. terms ≡ self.now) }
     {
         Ok(Terms {
-            nodes: self.nodes.clone()?,
+            nodes: self.nodes.copy()?,
         })
     }
 

@@ -1,22 +1,23 @@
 use Rattle.std.proofs.Common.{◌≡◌, ◌∙◌, true, Some, sym, ap, subst, rules}
-use Rattle.geo_terms.specs.contracts.nodes.NodePartialEq.TheImpl.{eq-value}
+use Rattle.std.specs.Ordering.{eq_by_cmp}
+use Rattle.geo_terms.specs.contracts.nodes.NodeOrd.TheImpl.{cmp-value}
 use Rattle.geo_terms.specs.declared.nodes.Node.{Node}
 use Rattle.geo_terms.specs.Stores.{IsStore}
 use Rattle.geo_terms.proofs.Interning.{IsInterned, interned, IsStore-interned, tree_of-interned, others-interned, pushed-interned, longer-interned, one_more-interned}
 use Rattle.geo_terms.proofs.stores.Terms.intern.Goals as goal
 use Rattle.geo_terms.proofs.stores.Terms.intern.Goals.{In_ok-index}
 
--- the derived `==` is equality
-same : (x y : Node) → (eq-value).it x y ≡ true → x ≡ y
+-- the derived order tells nodes that differ apart
+same : (x y : Node) → eq_by_cmp (cmp-value).it x y ≡ true → x ≡ y
 same x y e = search rules
 
-self : (x : Node) → (eq-value).it x x ≡ true
+self : (x : Node) → eq_by_cmp (cmp-value).it x x ≡ true
 self x = search rules
 
-is_interned : (c : In_ok-index) → IsInterned c.args.self.now c.args.node c.insert_full.new.self.keys
+is_interned : (c : In_ok-index) → IsInterned c.args.self.now c.args.node c.insert_full.new.self
 is_interned c =
-    subst (λ old. IsInterned old c.args.node c.insert_full.new.self.keys) c.self.view_is
-    (subst (IsInterned c.self.inside.nodes.keys c.args.node) (sym c.in_ok-index.ensures.keys) (interned (eq-value).it same self c.self.inside.nodes.keys c.args.node))
+    subst (λ old. IsInterned old c.args.node c.insert_full.new.self) c.self.view_is
+    (subst (IsInterned c.self.inside.nodes c.args.node) (sym c.in_ok-index.ensures.keys) (interned (eq_by_cmp (cmp-value).it) same self c.self.inside.nodes c.args.node))
 
 is_store : (c : In_ok-index) → IsStore c.args.self.now
 is_store c = subst IsStore c.self.view_is c.self.invariant
