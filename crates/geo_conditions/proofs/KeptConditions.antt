@@ -4,8 +4,8 @@ use Rattle.std.specs.Prelude.{max}
 use Rattle.std.specs.List.{AllByRecursion, list_any}
 use Rattle.std.proofs.lemmas.List.{map-append, map_push}
 use Rattle.std.proofs.lemmas.List.Folds.{list_any_at}
-use Rattle.indexmap.specs.IndexSet.{insert_key}
-use Rattle.indexmap.proofs.CallerLemmas.{Contains-list_any}
+use Rattle.first_seen.specs.Keys.{with_key}
+use Rattle.first_seen.proofs.Members.{Contains-list_any}
 use Rattle.geo_points.specs.declared.ids.PointId.{PointId}
 use Rattle.geo_points.specs.declared.ids.TermId.{TermId}
 use Rattle.geo_program.specs.Expressions.{nesting}
@@ -90,14 +90,14 @@ module _ (nodes : Store) where
 
   -- the parts of a step of the list
   pub lists_by : (old new : ConditionList) (xs : List Found) → IsConditionList nodes old → Leads key (found old.items.items) xs (found new.items.items)
-      → new.known.keys ≡ map kept new.items.items → AllByRecursion (λ i. IsKept nodes i.condition) new.items.items → new.walked.keys ≡ old.walked.keys → Lists nodes old new xs
+      → new.known ≡ map kept new.items.items → AllByRecursion (λ i. IsKept nodes i.condition) new.items.items → new.walked ≡ old.walked → Lists nodes old new xs
   lists_by old new xs h leads known keeps walked = record {
     valid = record {
       store = h.store;
       known = known;
       kept = keeps;
       walked = subst (λ es. AllByRecursion (IsWalked new.items.items) es) (sym walked)
-          (still_walked old.items.items new.items.items (leads_keep key (found old.items.items) xs (found new.items.items) leads) old.walked.keys h.walked);
+          (still_walked old.items.items new.items.items (leads_keep key (found old.items.items) xs (found new.items.items) leads) old.walked h.walked);
     };
     leads = leads;
   }
@@ -127,8 +127,8 @@ module _ (nodes : Store) where
     absent : (all : List KeptCondition) (c : KeptCondition) → list_any (eq c) all ≡ false → Contains all c → ⊥
     absent all c none there = true≢false (sym (list_any_at (eq c) all there.0 c there.1 (ap (eq c) there.2 ∙ self c)) ∙ none)
 
-    pub adds_new : (old new : ConditionList) (c : KeptCondition) (line : ℕ) → IsConditionList nodes old → IsKept nodes c → list_any (eq c) old.known.keys ≡ false
-        → new.known.keys ≡ insert_key eq old.known.keys c → new.items.items ≡ old.items.items ++ record { condition = c; line = line } ∷ [] → new.walked.keys ≡ old.walked.keys
+    pub adds_new : (old new : ConditionList) (c : KeptCondition) (line : ℕ) → IsConditionList nodes old → IsKept nodes c → list_any (eq c) old.known ≡ false
+        → new.known ≡ with_key eq old.known c → new.items.items ≡ old.items.items ++ record { condition = c; line = line } ∷ [] → new.walked ≡ old.walked
         → Lists nodes old new (found_at line (condition_of nodes c ∷ []))
     adds_new old new c line h k none keys items walked =
         let i : ListedCondition = record { condition = c; line = line } in
@@ -136,23 +136,23 @@ module _ (nodes : Store) where
         let unlisted : Contains (map key (found items_before)) (condition_of nodes c) → ⊥ =
         λ u. absent (map kept items_before) c (subst (λ all. list_any (eq c) all ≡ false) h.known none) (known_of_listed h.store items_before c k h.kept u) in
         let longer : found new.items.items ≡ found items_before ++ found_of nodes i ∷ [] = ap found items ∙ map_push (found_of nodes) items_before i in
-        let known : new.known.keys ≡ map kept new.items.items =
-        keys ∙ ap (λ b. if b then old.known.keys else old.known.keys ++ c ∷ []) none ∙ ap (λ all. all ++ c ∷ []) h.known ∙ sym (map_push kept items_before i) ∙ ap (map kept) (sym items) in
+        let known : new.known ≡ map kept new.items.items =
+        keys ∙ ap (λ b. if b then old.known else old.known ++ c ∷ []) none ∙ ap (λ all. all ++ c ∷ []) h.known ∙ sym (map_push kept items_before i) ∙ ap (map kept) (sym items) in
         lists_by old new (found_of nodes i ∷ []) h
         (subst (Leads key (found items_before) (found_of nodes i ∷ [])) (sym longer) (leads_new key (found items_before) (found_of nodes i) unlisted)) known
         (subst (λ all. AllByRecursion (λ j. IsKept nodes j.condition) all) (sym items) (each_append (λ j. IsKept nodes j.condition) items_before (i ∷ []) h.kept (k, tt))) walked
 
-    pub adds_known : (old new : ConditionList) (c : KeptCondition) (line : ℕ) → IsConditionList nodes old → list_any (eq c) old.known.keys ≡ true
-        → new.known.keys ≡ insert_key eq old.known.keys c → new.items.items ≡ old.items.items → new.walked.keys ≡ old.walked.keys
+    pub adds_known : (old new : ConditionList) (c : KeptCondition) (line : ℕ) → IsConditionList nodes old → list_any (eq c) old.known ≡ true
+        → new.known ≡ with_key eq old.known c → new.items.items ≡ old.items.items → new.walked ≡ old.walked
         → Lists nodes old new (found_at line (condition_of nodes c ∷ []))
     adds_known old new c line h there keys items walked =
         let items_before = old.items.items in
         let listed : Contains (map key (found items_before)) (condition_of nodes c) =
-        listed_of_known items_before c (subst (λ all. Contains all c) h.known (Contains-list_any eq same old.known.keys c there)) in
+        listed_of_known items_before c (subst (λ all. Contains all c) h.known (Contains-list_any eq same old.known c there)) in
         let xs = found_at line (condition_of nodes c ∷ []) in
         lists_by old new xs h
         (subst (λ all. Leads key (found items_before) xs (found all)) (sym items) (leads_known key (found items_before) xs (listed, tt)))
-        (keys ∙ ap (λ b. if b then old.known.keys else old.known.keys ++ c ∷ []) there ∙ h.known ∙ ap (map kept) (sym items))
+        (keys ∙ ap (λ b. if b then old.known else old.known ++ c ∷ []) there ∙ h.known ∙ ap (map kept) (sym items))
         (subst (λ all. AllByRecursion (λ j. IsKept nodes j.condition) all) (sym items) h.kept) walked
 
   -- WALKED TERMS
@@ -166,27 +166,27 @@ module _ (nodes : Store) where
   -- by an `==` that is equality
   module _ (eq : TermId → TermId → Bool) (same : (x y : TermId) → eq x y ≡ true → x ≡ y) where
     -- a term that was walked gives no more
-    pub walked_before : (list : ConditionList) (e : TermId) (line : ℕ) → IsConditionList nodes list → list_any (eq e) list.walked.keys ≡ true → Lists nodes list list (conditions_at line e)
+    pub walked_before : (list : ConditionList) (e : TermId) (line : ℕ) → IsConditionList nodes list → list_any (eq e) list.walked ≡ true → Lists nodes list list (conditions_at line e)
     walked_before list e line h there =
         let items = list.items.items in
-        let all : IsWalked items e = held (λ f. f) (IsWalked items) list.walked.keys e h.walked
-        (subst (λ es. Contains es e) (map_same list.walked.keys) (Contains-list_any eq same list.walked.keys e there)) in
+        let all : IsWalked items e = held (λ f. f) (IsWalked items) list.walked e h.walked
+        (subst (λ es. Contains es e) (map_same list.walked) (Contains-list_any eq same list.walked e there)) in
         record { valid = h; leads = leads_known key (found items) (conditions_at line e) (at_line line (Contains (map key (found items))) (expression_conditions (tree_of nodes e)) all) }
       where
         map_same : (es : List TermId) → es ≡ map (λ f. f) es
         map_same [] = refl
         map_same (e ∷ es) = ap (λ l. e ∷ l) (map_same es)
 
-    with_key : (Q : TermId → Type 0) (es : List TermId) (e : TermId) → AllByRecursion Q es → Q e → AllByRecursion Q (insert_key eq es e)
-    with_key Q es e h k = by (list_any (eq e) es)
+    each_with_key : (Q : TermId → Type 0) (es : List TermId) (e : TermId) → AllByRecursion Q es → Q e → AllByRecursion Q (with_key eq es e)
+    each_with_key Q es e h k = by (list_any (eq e) es)
       where
         by : (b : Bool) → AllByRecursion Q (if b then es else es ++ e ∷ [])
         by true = h
         by false = each_append Q es (e ∷ []) h (k, tt)
 
     -- a term whose conditions are listed is marked
-    pub walked_now : (old mid new : ConditionList) (e : TermId) (line : ℕ) → Lists nodes old mid (conditions_at line e) → new.items.items ≡ mid.items.items → new.known.keys ≡ mid.known.keys
-        → new.walked.keys ≡ insert_key eq mid.walked.keys e → Lists nodes old new (conditions_at line e)
+    pub walked_now : (old mid new : ConditionList) (e : TermId) (line : ℕ) → Lists nodes old mid (conditions_at line e) → new.items.items ≡ mid.items.items → new.known ≡ mid.known
+        → new.walked ≡ with_key eq mid.walked e → Lists nodes old new (conditions_at line e)
     walked_now old mid new e line f items known walked =
         let done : IsWalked mid.items.items e =
         unmapped (λ c. record { condition = c; line = line }) (λ g. Contains (map key (found mid.items.items)) g.condition) (expression_conditions (tree_of nodes e))
@@ -196,8 +196,8 @@ module _ (nodes : Store) where
             store = f.valid.store;
             known = known ∙ f.valid.known ∙ ap (map kept) (sym items);
             kept = subst (λ all. AllByRecursion (λ j. IsKept nodes j.condition) all) (sym items) f.valid.kept;
-            walked = subst (λ all. AllByRecursion (IsWalked all) new.walked.keys) (sym items)
-                (subst (λ es. AllByRecursion (IsWalked mid.items.items) es) (sym walked) (with_key (IsWalked mid.items.items) mid.walked.keys e f.valid.walked done));
+            walked = subst (λ all. AllByRecursion (IsWalked all) new.walked) (sym items)
+                (subst (λ es. AllByRecursion (IsWalked mid.items.items) es) (sym walked) (each_with_key (IsWalked mid.items.items) mid.walked e f.valid.walked done));
           };
           leads = subst (λ all. Leads key (found old.items.items) (conditions_at line e) (found all)) (sym items) f.leads;
         }

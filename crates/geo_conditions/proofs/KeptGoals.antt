@@ -3,8 +3,8 @@ use Rattle.std.proofs.Common.{◌≡◌, Bool, true, false, Contains, List, [], 
 use Rattle.std.specs.List.{AllByRecursion, list_any}
 use Rattle.std.proofs.lemmas.List.{append-nil}
 use Rattle.std.proofs.lemmas.List.Folds.{list_any_at}
-use Rattle.indexmap.specs.IndexSet.{insert_key}
-use Rattle.indexmap.proofs.CallerLemmas.{Contains-list_any}
+use Rattle.first_seen.specs.Keys.{with_key}
+use Rattle.first_seen.proofs.Members.{Contains-list_any}
 use Rattle.geo_points.specs.declared.ids.PointId.{PointId}
 use Rattle.geo_points.specs.declared.ids.TermId.{TermId}
 use Rattle.geo_program.specs.declared.statements.Statement.{Statement}
@@ -53,23 +53,23 @@ module _ (nodes : Store) where
   still_walked old new f [] h = tt
   still_walked old new f (e ∷ es) h = (still_listed old new f (ratio_goals (tree_of nodes e)) h.0, still_walked old new f es h.1)
 
-  lists_by : (old new : GoalList) (xs : List Statement) → IsGoalList nodes old → Leads itself old.goals.keys xs new.goals.keys → new.walked.keys ≡ old.walked.keys → ListsGoals nodes old new xs
+  lists_by : (old new : GoalList) (xs : List Statement) → IsGoalList nodes old → Leads itself old.goals xs new.goals → new.walked ≡ old.walked → ListsGoals nodes old new xs
   lists_by old new xs h leads walked = record {
     valid = record {
       store = h.store;
-      walked = subst (λ es. AllByRecursion (IsWalked new.goals.keys) es) (sym walked)
-          (still_walked old.goals.keys new.goals.keys (leads_keep itself old.goals.keys xs new.goals.keys leads) old.walked.keys h.walked);
+      walked = subst (λ es. AllByRecursion (IsWalked new.goals) es) (sym walked)
+          (still_walked old.goals new.goals (leads_keep itself old.goals xs new.goals leads) old.walked h.walked);
     };
     leads = leads;
   }
 
   pub lists_none : (list : GoalList) → IsGoalList nodes list → ListsGoals nodes list list []
-  lists_none list h = record { valid = h; leads = leads_none itself list.goals.keys }
+  lists_none list h = record { valid = h; leads = leads_none itself list.goals }
 
   pub lists_both : (one two three : GoalList) (xs ys : List Statement) → ListsGoals nodes one two xs → ListsGoals nodes two three ys → ListsGoals nodes one three (xs ++ ys)
   lists_both one two three xs ys f g = record {
     valid = g.valid;
-    leads = leads_both itself one.goals.keys xs two.goals.keys ys three.goals.keys f.leads g.leads;
+    leads = leads_both itself one.goals xs two.goals ys three.goals f.leads g.leads;
   }
 
   -- the goals of a term are those of its tree
@@ -81,50 +81,50 @@ module _ (nodes : Store) where
     absent : (all : List Statement) (g : Statement) → list_any (eq g) all ≡ false → Contains all g → ⊥
     absent all g none there = true≢false (sym (list_any_at (eq g) all there.0 g there.1 (ap (eq g) there.2 ∙ self g)) ∙ none)
 
-    pub adds : (old new : GoalList) (g : Statement) → IsGoalList nodes old → new.goals.keys ≡ insert_key eq old.goals.keys g → new.walked.keys ≡ old.walked.keys → ListsGoals nodes old new (g ∷ [])
+    pub adds : (old new : GoalList) (g : Statement) → IsGoalList nodes old → new.goals ≡ with_key eq old.goals g → new.walked ≡ old.walked → ListsGoals nodes old new (g ∷ [])
     adds old new g h keys walked =
-        lists_by old new (g ∷ []) h (subst (Leads itself old.goals.keys (g ∷ [])) (sym keys) (by (list_any (eq g) old.goals.keys) refl)) walked
+        lists_by old new (g ∷ []) h (subst (Leads itself old.goals (g ∷ [])) (sym keys) (by (list_any (eq g) old.goals) refl)) walked
       where
-        by : (b : Bool) → list_any (eq g) old.goals.keys ≡ b → Leads itself old.goals.keys (g ∷ []) (if b then old.goals.keys else old.goals.keys ++ g ∷ [])
-        by true e = leads_known itself old.goals.keys (g ∷ []) (subst (λ l. Contains l g) (map_itself old.goals.keys) (Contains-list_any eq same old.goals.keys g e), tt)
-        by false e = leads_new itself old.goals.keys g (λ u. absent old.goals.keys g e (subst (λ l. Contains l g) (sym (map_itself old.goals.keys)) u))
+        by : (b : Bool) → list_any (eq g) old.goals ≡ b → Leads itself old.goals (g ∷ []) (if b then old.goals else old.goals ++ g ∷ [])
+        by true e = leads_known itself old.goals (g ∷ []) (subst (λ l. Contains l g) (map_itself old.goals) (Contains-list_any eq same old.goals g e), tt)
+        by false e = leads_new itself old.goals g (λ u. absent old.goals g e (subst (λ l. Contains l g) (sym (map_itself old.goals)) u))
 
   -- WALKED TERMS
   module _ (eq : TermId → TermId → Bool) (same : (x y : TermId) → eq x y ≡ true → x ≡ y) where
     -- a term that was walked gives no more
-    pub walked_before : (list : GoalList) (e : TermId) → IsGoalList nodes list → list_any (eq e) list.walked.keys ≡ true → ListsGoals nodes list list (ratio_goals (tree_of nodes e))
+    pub walked_before : (list : GoalList) (e : TermId) → IsGoalList nodes list → list_any (eq e) list.walked ≡ true → ListsGoals nodes list list (ratio_goals (tree_of nodes e))
     walked_before list e h there =
-        let all : IsWalked list.goals.keys e = held itself (IsWalked list.goals.keys) list.walked.keys e h.walked
-        (subst (λ es. Contains es e) (map_itself list.walked.keys) (Contains-list_any eq same list.walked.keys e there)) in
-        record { valid = h; leads = leads_known itself list.goals.keys (ratio_goals (tree_of nodes e)) all }
+        let all : IsWalked list.goals e = held itself (IsWalked list.goals) list.walked e h.walked
+        (subst (λ es. Contains es e) (map_itself list.walked) (Contains-list_any eq same list.walked e there)) in
+        record { valid = h; leads = leads_known itself list.goals (ratio_goals (tree_of nodes e)) all }
 
-    with_key : (Q : TermId → Type 0) (es : List TermId) (e : TermId) → AllByRecursion Q es → Q e → AllByRecursion Q (insert_key eq es e)
-    with_key Q es e h k = by (list_any (eq e) es)
+    each_with_key : (Q : TermId → Type 0) (es : List TermId) (e : TermId) → AllByRecursion Q es → Q e → AllByRecursion Q (with_key eq es e)
+    each_with_key Q es e h k = by (list_any (eq e) es)
       where
         by : (b : Bool) → AllByRecursion Q (if b then es else es ++ e ∷ [])
         by true = h
         by false = each_append Q es (e ∷ []) h (k, tt)
 
     -- a term whose goals are listed is marked
-    pub walked_now : (old mid new : GoalList) (e : TermId) → ListsGoals nodes old mid (ratio_goals (tree_of nodes e)) → new.goals.keys ≡ mid.goals.keys
-        → new.walked.keys ≡ insert_key eq mid.walked.keys e → ListsGoals nodes old new (ratio_goals (tree_of nodes e))
+    pub walked_now : (old mid new : GoalList) (e : TermId) → ListsGoals nodes old mid (ratio_goals (tree_of nodes e)) → new.goals ≡ mid.goals
+        → new.walked ≡ with_key eq mid.walked e → ListsGoals nodes old new (ratio_goals (tree_of nodes e))
     walked_now old mid new e f goals walked =
-        let done : IsWalked mid.goals.keys e = (leads_contain itself old.goals.keys (ratio_goals (tree_of nodes e)) mid.goals.keys f.leads).1 in
+        let done : IsWalked mid.goals e = (leads_contain itself old.goals (ratio_goals (tree_of nodes e)) mid.goals f.leads).1 in
         record {
           valid = record {
             store = f.valid.store;
-            walked = subst (λ all. AllByRecursion (IsWalked all) new.walked.keys) (sym goals)
-                (subst (λ es. AllByRecursion (IsWalked mid.goals.keys) es) (sym walked) (with_key (IsWalked mid.goals.keys) mid.walked.keys e f.valid.walked done));
+            walked = subst (λ all. AllByRecursion (IsWalked all) new.walked) (sym goals)
+                (subst (λ es. AllByRecursion (IsWalked mid.goals) es) (sym walked) (each_with_key (IsWalked mid.goals) mid.walked e f.valid.walked done));
           };
-          leads = subst (Leads itself old.goals.keys (ratio_goals (tree_of nodes e))) (sym goals) f.leads;
+          leads = subst (Leads itself old.goals (ratio_goals (tree_of nodes e))) (sym goals) f.leads;
         }
 
   -- the goals of the ratios, and then the statement, are all that are listed
-  pub listed_goals : (start one two three : GoalList) (xs ys all : List Statement) (g : Statement) → start.goals.keys ≡ [] → ListsGoals nodes start one xs → ListsGoals nodes one two ys
-      → ListsGoals nodes two three (g ∷ []) → all ≡ xs ++ ys → IsListed itself [] (all ++ g ∷ []) three.goals.keys
+  pub listed_goals : (start one two three : GoalList) (xs ys all : List Statement) (g : Statement) → start.goals ≡ [] → ListsGoals nodes start one xs → ListsGoals nodes one two ys
+      → ListsGoals nodes two three (g ∷ []) → all ≡ xs ++ ys → IsListed itself [] (all ++ g ∷ []) three.goals
   listed_goals start one two three xs ys all g none f h k is =
-      let ends : IsListed itself start.goals.keys (((xs ++ ys) ++ g ∷ []) ++ []) three.goals.keys =
-      (lists_both start two three (xs ++ ys) (g ∷ []) (lists_both start one two xs ys f h) k).leads [] three.goals.keys refl in
-      let whole : IsListed itself start.goals.keys ((xs ++ ys) ++ g ∷ []) three.goals.keys = subst
-      (λ l. IsListed itself start.goals.keys l three.goals.keys) (append-nil ((xs ++ ys) ++ g ∷ [])) ends in
-      subst₂ (λ l m. IsListed itself l (m ++ g ∷ []) three.goals.keys) none (sym is) whole
+      let ends : IsListed itself start.goals (((xs ++ ys) ++ g ∷ []) ++ []) three.goals =
+      (lists_both start two three (xs ++ ys) (g ∷ []) (lists_both start one two xs ys f h) k).leads [] three.goals refl in
+      let whole : IsListed itself start.goals ((xs ++ ys) ++ g ∷ []) three.goals = subst
+      (λ l. IsListed itself start.goals l three.goals) (append-nil ((xs ++ ys) ++ g ∷ [])) ends in
+      subst₂ (λ l m. IsListed itself l (m ++ g ∷ []) three.goals) none (sym is) whole

@@ -10,9 +10,9 @@ ghost use Rattle.geo_conditions.specs.Inner.ConditionLists.{IsSameList};
 ghost use Rattle.geo_conditions.specs.Lists.{found_at};
 
 use crate::conditions::{Condition, ListedCondition};
+use first_seen::FirstSeen;
 use geo_points::{NoMemory, TermId};
 use geo_terms::{Node, Terms};
-use indexmap::IndexSet;
 use std::alloc::Global;
 
 /// The conditions that are listed so far, in order, and the terms whose conditions are all among
@@ -22,9 +22,9 @@ pub struct ConditionList {
     /// The conditions, with their lines.
     pub items: Vec<ListedCondition>,
     /// The same conditions, for look-ups.
-    pub known: IndexSet<Condition>,
+    pub known: FirstSeen<Condition>,
     /// The terms that were walked.
-    pub walked: IndexSet<TermId>,
+    pub walked: FirstSeen<TermId>,
 }
 
 // Whether the node is a number other than 0, which no divisor's condition speaks of.
@@ -42,13 +42,13 @@ impl ConditionList {
     /// No conditions.
     pub fn new(alloc: Global) -> ConditionList
         ensures items { result.items.items ≡ [] }
-        ensures known { result.known.keys ≡ [] }
-        ensures walked { result.walked.keys ≡ [] }
+        ensures known { result.known ≡ [] }
+        ensures walked { result.walked ≡ [] }
     {
         ConditionList {
             items: Vec::new(alloc),
-            known: IndexSet::new(alloc),
-            walked: IndexSet::new(alloc),
+            known: FirstSeen::new(alloc),
+            walked: FirstSeen::new(alloc),
         }
     }
 

@@ -5,7 +5,7 @@ use geo_program::LineId;
 
 /// What must hold for a command or for the statement to mean anything. Points, lines and terms are
 /// the program's, so two conditions of a program have one text only where they are equal.
-#[derive(Clone, Copy, Debug, PartialEq, Eq, Hash)]
+#[derive(Clone, Copy, Debug, PartialEq, Eq, PartialOrd, Ord)]
 pub enum Condition {
     /// A and B differ.
     Different {

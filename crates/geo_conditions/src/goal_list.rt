@@ -10,19 +10,19 @@ ghost use Rattle.geo_conditions.specs.Inner.GoalLists.{goals_given};
 ghost use Rattle.geo_conditions.specs.Lists.{AreGoals};
 ghost use Rattle.geo_conditions.specs.Statements.{pair_goals, ratio_goals};
 
+use first_seen::FirstSeen;
 use geo_points::{NoMemory, PointId, TermId};
 use geo_program::Statement;
 use geo_terms::{Node, Terms};
-use indexmap::IndexSet;
 use std::alloc::Global;
 
 /// The goals that are listed so far, in order, and the terms whose goals are all among them.
 #[derive(Drop)]
 pub struct GoalList {
     /// The goals.
-    pub goals: IndexSet<Statement>,
+    pub goals: FirstSeen<Statement>,
     /// The terms that were walked.
-    pub walked: IndexSet<TermId>,
+    pub walked: FirstSeen<TermId>,
 }
 
 // What gives goals for pairs of points.
@@ -62,12 +62,12 @@ fn goal_sources(statement: Statement) -> (GoalSource, GoalSource)
 impl GoalList {
     // No goals.
     fn new(alloc: Global) -> GoalList
-        ensures goals { result.goals.keys ≡ [] }
-        ensures walked { result.walked.keys ≡ [] }
+        ensures goals { result.goals ≡ [] }
+        ensures walked { result.walked ≡ [] }
     {
         GoalList {
-            goals: IndexSet::new(alloc),
-            walked: IndexSet::new(alloc),
+            goals: FirstSeen::new(alloc),
+            walked: FirstSeen::new(alloc),
         }
     }
 
@@ -150,7 +150,7 @@ pub fn list_goals(alloc: Global, terms: &Terms, statement: Statement) -> Result<
     requires sides { AreSidesBraced terms.now statement }
     ensures { IfOk result (λ list. (names : List Name) (commands : List Command) → AreGoals
         (record { names = names; nodes = terms.now; commands = commands; statement = statement })
-        list.goals.keys) }
+        list.goals) }
 {
     let mut list = GoalList::new(alloc);
     let (first, second) = goal_sources(statement);

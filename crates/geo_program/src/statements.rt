@@ -7,7 +7,7 @@ ghost use Rattle.geo_terms.specs.Stores.{Store};
 use geo_points::{PointId, TermId};
 
 /// The statement of a program.
-#[derive(Clone, Copy, Debug, PartialEq, Eq, Hash)]
+#[derive(Clone, Copy, Debug, PartialEq, Eq, PartialOrd, Ord)]
 pub enum Statement {
     /// Both sides have values, and these are equal.
     Equal {

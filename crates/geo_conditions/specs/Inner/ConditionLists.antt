@@ -45,15 +45,15 @@ AreListed nodes items conditions = AllByRecursion (λ c. Contains (map (λ f. f.
 -- the look-up has the listed conditions, and those of the walked terms are among them
 pub record IsConditionList (nodes : Store) (list : ConditionList) : Type 0 where
   pub store : IsStore nodes
-  pub known : list.known.keys ≡ map (λ i. i.condition) list.items.items
+  pub known : list.known ≡ map (λ i. i.condition) list.items.items
   pub kept : AllByRecursion (λ i. IsKept nodes i.condition) list.items.items
-  pub walked : AllByRecursion (λ e. AreListed nodes list.items.items (expression_conditions (tree_of nodes e))) list.walked.keys
+  pub walked : AllByRecursion (λ e. AreListed nodes list.items.items (expression_conditions (tree_of nodes e))) list.walked
 
 -- the same conditions, and the same terms
 pub record IsSameList (old new : ConditionList) : Type 0 where
   pub items : new.items.items ≡ old.items.items
-  pub known : new.known.keys ≡ old.known.keys
-  pub walked : new.walked.keys ≡ old.walked.keys
+  pub known : new.known ≡ old.known
+  pub walked : new.walked ≡ old.walked
 
 -- the list has these conditions more, each once and only where it was not there
 pub record Lists (nodes : Store) (old new : ConditionList) (found : List Found) : Type 0 where

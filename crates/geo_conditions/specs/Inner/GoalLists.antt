@@ -17,13 +17,13 @@ AreGoalsListed listed goals = AllByRecursion (λ g. Contains (map (λ h. h) list
 -- the goals of the walked terms are listed
 pub record IsGoalList (nodes : Store) (list : GoalList) : Type 0 where
   pub store : IsStore nodes
-  pub walked : AllByRecursion (λ e. AreGoalsListed list.goals.keys (ratio_goals (tree_of nodes e))) list.walked.keys
+  pub walked : AllByRecursion (λ e. AreGoalsListed list.goals (ratio_goals (tree_of nodes e))) list.walked
 
 -- the list has these goals more, each once and only where it was not there
 pub record ListsGoals (nodes : Store) (old new : GoalList) (goals : List Statement) : Type 0 where
   pub valid : IsGoalList nodes new
-  pub leads : (rest result : List Statement) → IsListed (λ g. g) new.goals.keys rest result
-      → IsListed (λ g. g) old.goals.keys (goals ++ rest) result
+  pub leads : (rest result : List Statement) → IsListed (λ g. g) new.goals rest result
+      → IsListed (λ g. g) old.goals (goals ++ rest) result
 
 -- the goals that a source gives
 abbrev pub goals_given : Store → GoalSource → List Statement

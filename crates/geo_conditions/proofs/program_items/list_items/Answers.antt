@@ -57,8 +57,8 @@ pub make_items-requires-clause-ratios : goal.make_items-requires-clause-ratios
 make_items-requires-clause-ratios c =
     let p = source_of c.args.program.now in
     goals_by_names p c.in_ok-printer.printer.names c.in_ok-printer.printer.terms.now c.in_ok-printer.ensures.names c.in_ok-printer.ensures.terms c.as_slice-ratios.result.now
-    (subst (λ (goals : List Statement). AllByRecursion (IsPrintableGoal p.names p.nodes) goals) (sym c.as_slice-ratios.ensures.keys)
-    (goals_printable p (program_well_formed c.args.program.now) c.in_ok-wanted.wanted.goals.keys (c.in_ok-wanted.ensures p.names p.commands)))
+    (subst (λ (goals : List Statement). AllByRecursion (IsPrintableGoal p.names p.nodes) goals) (sym c.as_slice-ratios.ensures)
+    (goals_printable p (program_well_formed c.args.program.now) c.in_ok-wanted.wanted.goals (c.in_ok-wanted.ensures p.names p.commands)))
 
 pub make_items-requires-clause-placed : goal.make_items-requires-clause-placed
 make_items-requires-clause-placed c =
@@ -103,9 +103,9 @@ returns-clause-goals c = λ version has.
     (ap (λ (l : List ParamId). map (λ t. t.0) l) z ∙ has.params) in
     let commands = c.as_slice-commands.result.now in
     let lines_are : length commands + 1 ≡ suc (length p.commands) = add-one (length commands) ∙ ap (λ (cs : List Command). suc (length cs)) c.as_slice-commands.ensures in
-    let goals = c.in_ok-wanted.wanted.goals.keys in
+    let goals = c.in_ok-wanted.wanted.goals in
     IfOk-weaker c.make_items.result _ _
     (λ both h. goals_by p c.in_ok-printer.printer.names c.in_ok-printer.printer.terms.now c.in_ok-printer.ensures.names
     c.in_ok-printer.ensures.terms version (places_layout places) (length commands + 1) c.make_items.new.steps.nodes both.1
-    c.as_slice-ratios.result.now goals layouts lines_are c.as_slice-ratios.ensures.keys (c.in_ok-wanted.ensures p.names p.commands) h)
+    c.as_slice-ratios.result.now goals layouts lines_are c.as_slice-ratios.ensures (c.in_ok-wanted.ensures p.names p.commands) h)
     c.make_items.ensures.goals
