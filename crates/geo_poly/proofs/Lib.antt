@@ -94,6 +94,7 @@ pub mod TermLimits
 pub mod WordSums
 pub mod WordMultiples
 pub mod WordProducts
+pub mod RunProducts
 pub mod RoleWalks
 pub mod NarrowWords
 pub mod AddedKeys

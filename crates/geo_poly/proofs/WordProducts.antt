@@ -171,7 +171,7 @@ module _ (vars : List Var) (rising : IsStrictlySortedBy var_cmp vars) (limits : 
       )
 
   -- the canonical list of words stands for the polynomial
-  terms-canonical : (ps : Pairs) → AllKeys (IsKeyUnder vars keys) ps
+  pub terms-canonical : (ps : Pairs) → AllKeys (IsKeyUnder vars keys) ps
       → keyed_terms_under vars keys (canonical (flip_args nat_cmp) coefficients ps) ≡ polynomial_of (keyed_terms_under vars keys ps)
   terms-canonical ps h =
       sym (canonical-rename (flip_args nat_cmp) term_cmp coefficients (λ k. named vars (keys.powers k)) (IsKeyUnder vars keys)
@@ -187,10 +187,10 @@ module _ (vars : List Var) (rising : IsStrictlySortedBy var_cmp vars) (limits : 
     abbrev q : Summands
     q = terms_under vars keys right
 
-    are_keys : AllKeys (IsKeyUnder vars keys) (word_products left right)
+    pub are_keys : AllKeys (IsKeyUnder vars keys) (word_products left right)
     are_keys = keys-products p q reach right right_in (λ v. omega arith) left left_in (λ v. omega arith)
 
-    are_products : keyed_terms_under vars keys (word_products left right) ≡ products p q
+    pub are_products : keyed_terms_under vars keys (word_products left right) ≡ products p q
     are_products = terms-products p q reach right right_in (λ v. omega arith) left left_in (λ v. omega arith)
 
     pub products_within : (n : ℕ) → n ≡ word_count limits → AllKeys (λ w. w < n) (word_products left right)

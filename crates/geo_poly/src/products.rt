@@ -29,6 +29,7 @@ use crate::moving::{keyed, moved};
 use crate::multiples::multiples_list;
 use crate::polynomial_variables::{has_all, union};
 use crate::polynomials::Poly;
+use crate::run_products::run_product;
 use crate::shared::{Indexed, Shared};
 use crate::ticks::Ticks;
 use crate::variables::Var;
@@ -181,7 +182,7 @@ fn product(alloc: Global, p: &Shared, q: &Shared) -> Result<Poly, NoMemory>
     }
     let vars = union(alloc, p.vars, q.vars)?;
     match product_digits(alloc, vars.as_slice(), p, q)? {
-        Some(words) => packed_product::<Brand>(alloc, vars, words, p, q, Blank::new(1)),
+        Some(words) => packed_product(alloc, vars, words, p, q),
         None => stored_product(alloc, vars, p, q),
     }
 }
@@ -202,17 +203,13 @@ fn stored_product(alloc: Global, vars: Vars, p: &Shared, q: &Shared) -> Result<P
 }
 
 /// The product, which fits, by words that have room for it.
-fn packed_product<L: Ledger>(
+fn packed_product(
     alloc: Global,
     vars: Vars,
     mut words: Digits,
     p: &Shared,
     q: &Shared,
-    blank: Blank,
 ) -> Result<Poly, NoMemory>
-    requires name { blank.name ≡ L.name }
-    requires parts { blank.parts ≡ L.parts }
-    requires some { 0 < blank.parts }
     requires rising { IsStrictlySortedBy var_cmp vars }
     requires left { AreParts p.now }
     requires right { AreParts q.now }
@@ -224,19 +221,17 @@ fn packed_product<L: Ledger>(
     ensures { IfOk result (λ s. s ≡ product_of (told p.now) (told q.now)) }
 {
     let names = vars.as_slice();
-    let mut ticks = Ticks::<L>::new(blank);
-    let list = keyed_product(alloc, &mut words, names, p, q, &mut ticks)?;
+    let list = keyed_product(alloc, &mut words, names, p, q)?;
     Poly::of_words(alloc, vars, words, list)
 }
 
 /// The list of the product, which fits, by words that have room for it.
-fn keyed_product<L: Ledger>(
+fn keyed_product(
     alloc: Global,
     words: &mut Digits,
     vars: &[Var],
     p: &Shared,
     q: &Shared,
-    ticks: &mut Ticks<L>,
 ) -> Result<Vec<Indexed>, NoMemory>
     requires rising { IsStrictlySortedBy var_cmp vars.now }
     requires left { AreParts p.now }
@@ -252,17 +247,16 @@ fn keyed_product<L: Ledger>(
 {
     let left = keyed(alloc, words, vars, p)?;
     let right = keyed(alloc, words, vars, q)?;
-    word_product(alloc, words, vars, &left, &right, ticks)
+    word_product(alloc, words, vars, &left, &right)
 }
 
-/// The list of the product, by words: where these are few by a sum for each, or else by chains.
-fn word_product<L: Ledger>(
+/// The list of the product, by words: where these are few by a sum for each, or else by runs.
+fn word_product(
     alloc: Global,
     words: &mut Digits,
     vars: &[Var],
     left: &[Indexed],
     right: &[Indexed],
-    ticks: &mut Ticks<L>,
 ) -> Result<Vec<Indexed>, NoMemory>
     requires rising { IsStrictlySortedBy var_cmp vars.now }
     requires left { AllKeys (IsIndexUnder vars.now (word_keys words.old)) left.now }
@@ -281,7 +275,7 @@ fn word_product<L: Ledger>(
     if is_dense(words, left, right) {
         dense_product(alloc, words, vars, left, right)
     } else {
-        merged_product(alloc, words, vars, left, right, ticks)
+        run_product(alloc, words, vars, left, right)
     }
 }
 

@@ -1,5 +1,5 @@
-//! Tests of stores of monomials, arenas of chains, greatest common divisors, polynomials, what is made
-//! of them, and samples. There is nothing here but tests, and they use public calls alone.
+//! Tests of stores of monomials, arenas of chains, runs of terms, greatest common divisors, polynomials,
+//! what is made of them, and samples. There is nothing here but tests, and they use public calls alone.
 #![tactic(auto)]
 
 #[cfg(test)]
@@ -12,6 +12,8 @@ mod fractions;
 mod numbers;
 #[cfg(test)]
 mod polynomials;
+#[cfg(test)]
+mod runs;
 #[cfg(test)]
 mod samples;
 #[cfg(test)]

@@ -9,7 +9,7 @@ use Rattle.geo_poly.proofs.KeysKept.{indices_under-kept, terms_under-kept}
 use Rattle.geo_poly.proofs.products.keyed_product.Goals as goal
 
 pub keyed-requires-clause-reach : goal.keyed-requires-clause-reach
-keyed-requires-clause-reach g c =
+keyed-requires-clause-reach c =
     let p = told c.args.p.now in
     let q = told c.args.q.now in
     let keys = word_keys c.args.words.now in
@@ -17,7 +17,7 @@ keyed-requires-clause-reach g c =
     c.requires.reach
 
 pub keyed-requires-2-clause-reach : goal.keyed-requires-2-clause-reach
-keyed-requires-2-clause-reach g c =
+keyed-requires-2-clause-reach c =
     let p = told c.args.p.now in
     let q = told c.args.q.now in
     let old = word_keys c.args.words.now in
@@ -26,12 +26,12 @@ keyed-requires-2-clause-reach g c =
     (λ v. omega arith) c.requires.reach
 
 pub word_product-requires-clause-left : goal.word_product-requires-clause-left
-word_product-requires-clause-left g c =
+word_product-requires-clause-left c =
     rw c.deref.ensures.value (indices_under-kept c.args.vars.now (word_keys c.keyed.new.keys) (word_keys c.keyed-2.new.keys)
     c.in_ok-left.left.items c.in_ok-right.ensures.kept c.in_ok-left.ensures.indices)
 
 pub word_product-requires-clause-fits : goal.word_product-requires-clause-fits
-word_product-requires-clause-fits g c =
+word_product-requires-clause-fits c =
     let vars = c.args.vars.now in
     let first = word_keys c.keyed.new.keys in
     let second = word_keys c.keyed-2.new.keys in
@@ -42,7 +42,7 @@ word_product-requires-clause-fits g c =
     (subst (λ (q : Summands). CanMultiply (told c.args.p.now) q) (sym right) c.requires.fits)
 
 pub word_product-requires-clause-reach : goal.word_product-requires-clause-reach
-word_product-requires-clause-reach g c =
+word_product-requires-clause-reach c =
     let vars = c.args.vars.now in
     let old = word_keys c.args.words.now in
     let first = word_keys c.keyed.new.keys in
@@ -56,7 +56,7 @@ word_product-requires-clause-reach g c =
     (AreInReach-kept vars old second (told c.args.p.now) (told c.args.q.now) limits c.requires.reach))
 
 pub returns-clause-product : goal.returns-clause-product
-returns-clause-product g c =
+returns-clause-product c =
     let vars = c.args.vars.now in
     let first = word_keys c.keyed.new.keys in
     let second = word_keys c.keyed-2.new.keys in

@@ -10,16 +10,16 @@ use Rattle.geo_poly.proofs.ProductLaws.{IsPolynomial-product_of}
 use Rattle.geo_poly.proofs.products.packed_product.Goals as goal
 
 pub keyed_product-requires-clause-reach : goal.keyed_product-requires-clause-reach
-keyed_product-requires-clause-reach g c = rw c.as_slice-names.ensures (λ i known. c.requires.room.each i known)
+keyed_product-requires-clause-reach c = rw c.as_slice-names.ensures (λ i known. c.requires.room.each i known)
 
 pub of_words-requires-clause-indices : goal.of_words-requires-clause-indices
-of_words-requires-clause-indices g c =
+of_words-requires-clause-indices c =
     let keys = word_keys c.keyed_product.new.words in
     let list = c.in_ok-list.list.items in
     subst (λ (vs : List Var). AllKeys (IsIndexUnder vs keys) list) c.as_slice-names.ensures c.in_ok-list.ensures.indices
 
 pub of_words-requires-clause-polynomial : goal.of_words-requires-clause-polynomial
-of_words-requires-clause-polynomial g c =
+of_words-requires-clause-polynomial c =
     let keys = word_keys c.keyed_product.new.words in
     let list = c.in_ok-list.list.items in
     let p = told c.args.p.now in
@@ -28,7 +28,7 @@ of_words-requires-clause-polynomial g c =
     subst IsPolynomial (sym whole) (IsPolynomial-product_of p q c.requires.fits.norm_fits c.requires.fits.degree_fits)
 
 pub returns : goal.returns
-returns g c =
+returns c =
     let keys = word_keys c.keyed_product.new.words in
     let list = c.in_ok-list.list.items in
     let p = told c.args.p.now in
