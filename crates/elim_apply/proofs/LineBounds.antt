@@ -11,7 +11,8 @@ use Rattle.geo_poly.specs.declared.replacement.Piece.{Piece}
 use Rattle.geo_poly.specs.declared.replacement.Row.{Row}
 use Rattle.geo_poly.specs.declared.variables.Var.{Var}
 use Rattle.geo_poly.specs.Monomials.{Powers, IsMonomial, degree_of, exponents}
-use Rattle.geo_poly.specs.Polynomials.{Summands, IsPolynomial, coefficients, term_cmp}
+use Rattle.sparse_lists.specs.Coefficients.{coefficients}
+use Rattle.geo_poly.specs.Polynomials.{Summands, IsPolynomial, term_cmp}
 use Rattle.geo_poly.specs.PolynomialVariables.{AllVariables}
 use Rattle.geo_poly.specs.Replace.{AllBounded, IsBounded, degree_bound, degree_row, degree_rows, denominators, most_denominators, others}
 use Rattle.geo_poly.specs.Replace.{replaced_degree, replaced_weight, row_of, term_weight, weight_of, weight_row, weight_rows}

@@ -9,7 +9,8 @@ use Rattle.geo_poly.specs.declared.canonical.Canon.{Canon}
 use Rattle.geo_poly.specs.declared.variables.Var.{Var}
 use Rattle.geo_poly.specs.Canonical.{canonical_area, canonical_difference, canonical_ratio}
 use Rattle.geo_poly.specs.Monomials.{Powers, degree_of}
-use Rattle.geo_poly.specs.Polynomials.{Summands, coefficients, term_cmp, norm_of, total_degree, constant_of, sum_of, negated, difference_of, product_of}
+use Rattle.sparse_lists.specs.Coefficients.{coefficients}
+use Rattle.geo_poly.specs.Polynomials.{Summands, term_cmp, norm_of, total_degree, constant_of, sum_of, negated, difference_of, product_of}
 use Rattle.geo_poly.proofs.Lengths.{length-negated, length-product_of-le, length-sum_of-le}
 use Rattle.geo_poly.proofs.Negated.{norm_of-negated}
 use Rattle.geo_poly.proofs.PolynomialLaws.{norm_of-sum_of-le}

@@ -17,10 +17,11 @@ use Rattle.sparse_lists.proofs.Canonical.{amount-canonical, same_list}
 use Rattle.geo_poly.specs.declared.variables.Var.{Var}
 use Rattle.geo_poly.specs.Variables.{var_cmp}
 use Rattle.geo_poly.specs.Monomials.{Powers, exponents, exponent}
-use Rattle.geo_poly.specs.Polynomials.{Summands, coefficients, term_cmp}
+use Rattle.sparse_lists.specs.Coefficients.{coefficients}
+use Rattle.geo_poly.specs.Polynomials.{Summands, term_cmp}
 use Rattle.geo_poly.specs.Specialise.{without, specialised_term, specialised, degree_in}
 use Rattle.geo_poly.proofs.Orders.{var_order, exponents_add, term_order}
-use Rattle.geo_poly.proofs.PolynomialLaws.{coefficients_add}
+use Rattle.sparse_lists.proofs.Coefficients.{coefficients_add}
 use Rattle.geo_poly.proofs.SpecialisedLaws.{exponent-without_other}
 use Rattle.geo_poly.proofs.WholePowers.{int_pow-zero, int_pow-suc}
 use Rattle.geo_library.proofs.Gathered.{IsGathered, IsInOrder}

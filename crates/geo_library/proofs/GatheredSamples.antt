@@ -11,7 +11,8 @@ use Rattle.geo_poly.specs.declared.variables.Var.{Var}
 use Rattle.geo_poly.specs.declared.variables.Var.TheVariants.{R, T}
 use Rattle.geo_poly.specs.Canonical.{canonical_difference, canonical_ratio, higher, is_point, is_same_pair, lower, pair_sign, permutation_sign, signed_variable, sorted_area, sorted_difference}
 use Rattle.geo_poly.specs.Monomials.{Powers, exponents}
-use Rattle.geo_poly.specs.Polynomials.{Summands, coefficients, constant_of, multiples, negated, product_of, products, sum_of, term_cmp}
+use Rattle.sparse_lists.specs.Coefficients.{coefficients}
+use Rattle.geo_poly.specs.Polynomials.{Summands, constant_of, multiples, negated, product_of, products, sum_of, term_cmp}
 use Rattle.geo_poly.specs.Specialise.{NoneZero, specialised, specialised_term, without}
 use Rattle.geo_poly.specs.Variables.{var_cmp}
 use Rattle.geo_poly.proofs.Negated.{IsCanonical-negated}

@@ -8,7 +8,8 @@ use Rattle.geo_points.specs.Points.{Point, x_coordinate, y_coordinate}
 use Rattle.geo_points.specs.Steps.{IsAlong, IsCrossing, IsFoot, IsTurned, IsWeighted}
 use Rattle.geo_points.specs.Vectors.{run, rise}
 use Rattle.geo_points.proofs.AreaRows.{cross'}
-use Rattle.geo_points.proofs.Coordinates.{cross_of, dot_of, cross_product-is, dot_product-is, turned-x, turned-y, dot'}
+use Rattle.geo_points.proofs.Coordinates.{dot'}
+use Rattle.geo_points.proofs.Lines.{cross_of, dot_of, cross_product-is, dot_product-is, turned-x, turned-y}
 use Rattle.geo_points.proofs.Expressions.{abscissa, ordinate, whole_number, given_number, ◌+'◌, ◌-'◌, ◌*'◌, opposite', fact}
 use Rattle.geo_points.proofs.Geometry.{geo_combination}
 use Rattle.geo_points.proofs.Making.{cross_nonzero, length_nonzero}

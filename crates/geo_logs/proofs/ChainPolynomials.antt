@@ -10,7 +10,8 @@ use Rattle.geo_poly.specs.declared.variables.Var.{Var}
 use Rattle.geo_poly.specs.declared.variables.Var.TheVariants.{R, T}
 use Rattle.geo_poly.specs.Canonical.{canonical_difference, canonical_ratio, higher, is_point, is_same_pair, lower, pair_sign, permutation_sign, signed_variable, sorted_area, sorted_difference}
 use Rattle.geo_poly.specs.Monomials.{IsMonomial}
-use Rattle.geo_poly.specs.Polynomials.{IsPolynomial, Summands, coefficients, constant_of, negated, norm_of, product_of, products, sum_of, term_cmp, total_degree}
+use Rattle.sparse_lists.specs.Coefficients.{coefficients}
+use Rattle.geo_poly.specs.Polynomials.{IsPolynomial, Summands, constant_of, negated, norm_of, product_of, products, sum_of, term_cmp, total_degree}
 use Rattle.geo_poly.specs.Replace.{AllBounded, most_denominators}
 use Rattle.geo_poly.proofs.Negated.{IsCanonical-negated}
 use Rattle.geo_poly.proofs.ProductLaws.{monomials_of_products}

@@ -14,7 +14,8 @@ use Rattle.geo_points.proofs.Placed.{along_exists}
 use Rattle.geo_points.proofs.Steps.{along-x, along-y}
 use Rattle.geo_points.specs.Vectors.{Differ, run, rise}
 use Rattle.geo_lowering.specs.Relations.{one, IsCircumcenter, IsOrthocenter, IsOnCircle}
-use Rattle.geo_points.proofs.Coordinates.{cross_of, dot_of, cross_product-is, dot_product-is, turned-x, turned-y, dot', cross_null, dot_null}
+use Rattle.geo_points.proofs.Coordinates.{dot', dot_null}
+use Rattle.geo_points.proofs.Lines.{cross_of, dot_of, cross_product-is, dot_product-is, turned-x, turned-y, cross_null}
 use Rattle.geo_points.proofs.Zeros.{not_same, geo_cancel, differ}
 use Rattle.geo_points.proofs.Making.{cross_nonzero, length_nonzero, foot_exists, turned_exists}
 use Rattle.geo_lowering.proofs.Commands.{corner_differ}

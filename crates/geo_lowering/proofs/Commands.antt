@@ -16,7 +16,8 @@ use Rattle.geo_points.proofs.Steps.{along-x, along-y, along_back}
 use Rattle.geo_points.specs.Vectors.{Differ, run, rise}
 use Rattle.geo_lowering.specs.Relations.{one, two, three, middle, IsMidpoint, IsTranslate, IsSymmetric, IsCentroid, IsReflection}
 use Rattle.geo_lowering.specs.Relations.{IsOnCircle, IsOnLineAndCircle, IsOnBothCircles, IsInverse, IsOnBothLines, IsProjection, two_thirds}
-use Rattle.geo_points.proofs.Coordinates.{dot_of, cross_product-is, dot_product-is, turned-x, turned-y, dot', cross_null, dot_null}
+use Rattle.geo_points.proofs.Coordinates.{dot', dot_null}
+use Rattle.geo_points.proofs.Lines.{dot_of, cross_product-is, dot_product-is, turned-x, turned-y, cross_null}
 use Rattle.geo_points.proofs.Zeros.{not_same, geo_cancel, apart, differ, far}
 use Rattle.geo_points.proofs.Making.{length_nonzero, turned_exists}
 use Rattle.geo_points.proofs.Same.{self_point, cross_product-same}

@@ -13,7 +13,7 @@ use Rattle.ring_laws.proofs.Quotients.{cancel_fraction, quotient-times}
 use Rattle.geo_points.proofs.Steps.{along-x, along-y}
 use Rattle.geo_points.specs.Vectors.{run, rise}
 use Rattle.geo_lowering.specs.Relations.{one, two}
-use Rattle.geo_points.proofs.Coordinates.{cross_product-is, turned-x, turned-y, cross_null}
+use Rattle.geo_points.proofs.Lines.{cross_product-is, turned-x, turned-y, cross_null}
 use Rattle.geo_points.proofs.Zeros.{is_nonzero, not_same, denied, geo_cancel}
 use Rattle.geo_lowering.proofs.Centers.{bisector_down, bisector_up}
 use Rattle.geo_lowering.proofs.ZeroTerms.{parallel-is}

@@ -8,7 +8,8 @@ use Rattle.geo_points.proofs.Expressions.{abscissa, ordinate, area, pythagoras, 
 use Rattle.geo_points.proofs.Geometry.{geo_combination}
 use Rattle.geo_points.specs.Vectors.{Differ, run, rise}
 use Rattle.geo_lowering.specs.Relations.{IsMidpoint, circle_determinant}
-use Rattle.geo_points.proofs.Coordinates.{cross_product-is, dot_product-is, dot', cross_null, dot_null}
+use Rattle.geo_points.proofs.Coordinates.{dot', dot_null}
+use Rattle.geo_points.proofs.Lines.{cross_product-is, dot_product-is, cross_null}
 use Rattle.geo_points.proofs.Zeros.{denied, same_of_minus, minus_of_same, same_point, squares_null}
 
 pub collinear-is : (A B C : Point) → (cross_product A B A C ≡ pos 0 → Same (signed_area A B C) (whole (pos 0))) × (Same (signed_area A B C) (whole (pos 0)) → cross_product A B A C ≡ pos 0)

@@ -10,7 +10,8 @@ use Rattle.geo_points.proofs.Geometry.{geo_combination}
 use Rattle.ring_laws.proofs.Quotients.{quotient-times}
 use Rattle.geo_points.proofs.Placed.{point_exists}
 use Rattle.geo_points.specs.Vectors.{Differ, run, rise}
-use Rattle.geo_points.proofs.Coordinates.{cross_of, dot_of, cross_product-is, dot_product-is, turned-x, turned-y, dot', cross_null, dot_null, turned_back}
+use Rattle.geo_points.proofs.Coordinates.{dot', dot_null, turned_back}
+use Rattle.geo_points.proofs.Lines.{cross_of, dot_of, cross_product-is, dot_product-is, turned-x, turned-y, cross_null}
 use Rattle.geo_points.proofs.Zeros.{is_nonzero, geo_cancel, same_point, apart, differ, squares_null}
 
 -- the denominators, as fractions

@@ -12,7 +12,8 @@ use Rattle.ring_laws.proofs.Fractions.{fractions, cancel}
 use Rattle.geo_points.proofs.Steps.{along-x, along-y, along_back}
 use Rattle.geo_points.proofs.Weighted.{weighted-x, weighted-y, weighted_back, combination}
 use Rattle.geo_points.specs.Vectors.{Differ}
-use Rattle.geo_points.proofs.Coordinates.{cross_product-is, dot_product-is, turned-x, turned-y, dot', cross_null, dot_null, turned_back}
+use Rattle.geo_points.proofs.Coordinates.{dot', dot_null, turned_back}
+use Rattle.geo_points.proofs.Lines.{cross_product-is, dot_product-is, turned-x, turned-y, cross_null}
 use Rattle.geo_points.proofs.Zeros.{apart, differ}
 
 infixr 3 ◌∘◌

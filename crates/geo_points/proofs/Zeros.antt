@@ -11,7 +11,8 @@ use Rattle.ring_laws.proofs.Fractions.{fractions, cancel}
 use Rattle.geo_points.proofs.Geometry.{geo_combination}
 use Rattle.ring_laws.proofs.Quotients.{cancel_fraction, same_of_zero, zero_of_same, both_null}
 use Rattle.geo_points.specs.Vectors.{Differ, run, rise}
-use Rattle.geo_points.proofs.Coordinates.{x_difference_null, y_difference_null, square_nonzero}
+use Rattle.geo_points.proofs.Denominators.{square_nonzero}
+use Rattle.geo_points.proofs.Lines.{x_difference_null, y_difference_null}
 
 -- ---- zero and not zero
 pub is_nonzero : (a : Fraction) → (Same a (whole (pos 0)) → ⊥) → IsNonzero a

@@ -3,7 +3,8 @@ use Rattle.std.proofs.Common.{◌≡◌, ℕ, zero, suc, ◌-◌, ℤ, pos, Opti
 use Rattle.sparse_lists.specs.SparseLists.{AllKeys, IsCanonical}
 use Rattle.geo_poly.specs.declared.replacement.Row.{Row}
 use Rattle.geo_poly.specs.Monomials.{Powers, IsMonomial}
-use Rattle.geo_poly.specs.Polynomials.{Summands, coefficients, constant_of, product_of, term_cmp}
+use Rattle.sparse_lists.specs.Coefficients.{coefficients}
+use Rattle.geo_poly.specs.Polynomials.{Summands, constant_of, product_of, term_cmp}
 use Rattle.geo_poly.specs.Inner.Accumulated.{accumulated_term, accumulated_terms, times_power, times_row, times_rows}
 use Rattle.geo_poly.specs.Replace.{denominators, numerator_power, numerators, others, power_of, replaced_term, replaced_terms, row_of}
 use Rattle.geo_poly.proofs.PolynomialRing.{IsNormal, IsNormal-product_of, power_of-comm, product_of-assoc, product_of-one, product_of-one_comm}

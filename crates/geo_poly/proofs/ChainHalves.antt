@@ -7,7 +7,8 @@ use Rattle.geo_poly.specs.declared.variables.Var.{Var}
 use Rattle.geo_poly.specs.Chained.{AddsChain, StandsUnder, keyed_terms_under}
 use Rattle.geo_poly.specs.Inner.Keyed.{AreInReach, IsIndexUnder, KeepsKeys, term_under, terms_under}
 use Rattle.geo_poly.specs.Keys.{Keys}
-use Rattle.geo_poly.specs.Polynomials.{CanMultiply, Summands, coefficients, norm_of, product_of, sum_of, term_cmp}
+use Rattle.sparse_lists.specs.Coefficients.{coefficients}
+use Rattle.geo_poly.specs.Polynomials.{CanMultiply, Summands, norm_of, product_of, sum_of, term_cmp}
 use Rattle.geo_poly.specs.Shared.{Indices}
 use Rattle.geo_poly.proofs.ChainSteps.{StandsUnder-kept, live-differs}
 use Rattle.geo_poly.proofs.ProductLaws.{CanMultiply-take, CanMultiply-drop, IsCanonical-product_of, halves_fit, product_of_halves}

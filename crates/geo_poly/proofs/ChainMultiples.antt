@@ -8,7 +8,7 @@ use Rattle.sparse_lists.proofs.Merging.{drop_at, get_or_any}
 use Rattle.sparse_lists.proofs.Sums.{AllKeys-append, AllKeys-at}
 use Rattle.mono_store.specs.declared.links.MonoId.{MonoId}
 use Rattle.mono_store.specs.Monomials.{Powers as NumberedPowers, degree_of as numbered_degree, product as numbered_product}
-use Rattle.poly_arena.specs.Chains.{Pairs}
+use Rattle.sparse_lists.specs.Coefficients.{Pairs}
 use Rattle.geo_poly.specs.declared.variables.Var.{Var}
 use Rattle.geo_poly.specs.Chained.{keyed_terms_under}
 use Rattle.geo_poly.specs.Inner.Keyed.{AreInReach, IsInReach, IsIndexUnder, KeepsKeys, term_under, terms_under}

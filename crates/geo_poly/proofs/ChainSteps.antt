@@ -4,7 +4,8 @@ use Rattle.std.specs.Prelude.{Option, IsSome, ◌≢◌, unwrap_or}
 use Rattle.std.proofs.lemmas.Bool.{false≢true}
 use Rattle.sparse_lists.specs.SparseLists.{AllKeys}
 use Rattle.mono_store.specs.Stores.{Keeps, Store}
-use Rattle.poly_arena.specs.Chains.{Chains, IsLive, Merges, Pairs, Updates, list_of, pairs_of}
+use Rattle.sparse_lists.specs.Coefficients.{Pairs}
+use Rattle.poly_arena.specs.Chains.{Chains, IsLive, Merges, Updates, list_of, pairs_of}
 use Rattle.geo_poly.specs.declared.variables.Var.{Var}
 use Rattle.geo_poly.specs.Chained.{AddsChain, IsKey, SameChains, StandsFor, StandsUnder, keyed_terms, keyed_terms_under}
 use Rattle.geo_poly.specs.Inner.Keyed.{KeepsKeys}

@@ -6,7 +6,8 @@ use Rattle.geo_poly.specs.declared.variables.Var.{Var}
 use Rattle.geo_poly.specs.Chained.{AddsChain, StandsUnder, keyed_terms_under}
 use Rattle.geo_poly.specs.Inner.Keyed.{KeepsKeys}
 use Rattle.geo_poly.specs.Keys.{Keys}
-use Rattle.geo_poly.specs.Polynomials.{Summands, coefficients, norm_of, sum_of, term_cmp}
+use Rattle.sparse_lists.specs.Coefficients.{coefficients}
+use Rattle.geo_poly.specs.Polynomials.{Summands, norm_of, sum_of, term_cmp}
 use Rattle.geo_poly.proofs.ChainSteps.{StandsUnder-kept, live-differs}
 
 module _ (vars : List Var) (s1 s2 : Keys) (kept : KeepsKeys s1 s2) (a1 a2 : Chains) (sum rest : ℕ) (p q : Summands) (first : StandsUnder vars s1 a1 sum p) (adds : AddsChain a1 a2 rest)

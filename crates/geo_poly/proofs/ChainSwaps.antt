@@ -2,7 +2,8 @@
 use Rattle.std.proofs.Common.{◌≡◌, ℕ, zero, suc, ◌<◌, get_or, length, arith, inl, inr, None, List, [], ◌∷◌, ◌++◌, refl, sym, ap, subst, ◌∙◌}
 use Rattle.std.specs.Prelude.{Option, Result, Ok, Err, IfOk, OnErr}
 use Rattle.mono_store.specs.Stores.{Keeps, Store}
-use Rattle.poly_arena.specs.Chains.{Chains, Pairs, Updates, list_of}
+use Rattle.sparse_lists.specs.Coefficients.{Pairs}
+use Rattle.poly_arena.specs.Chains.{Chains, Updates, list_of}
 use Rattle.geo_poly.specs.declared.replacement.Row.{Row}
 use Rattle.geo_poly.specs.declared.settings.Setting.{Setting}
 use Rattle.geo_poly.specs.declared.variables.Var.{Var}

@@ -8,12 +8,13 @@ use Rattle.sparse_lists.specs.SparseLists.{AllKeys, IsCanonical}
 use Rattle.sparse_lists.proofs.Canonical.{amount-append, canonical_same}
 use Rattle.geo_poly.specs.declared.variables.Var.{Var}
 use Rattle.geo_poly.specs.Monomials.{Powers, IsMonomial, exponent}
-use Rattle.geo_poly.specs.Polynomials.{Summands, IsPolynomial, coefficient, coefficients, norm_of, sum_of, term_cmp}
+use Rattle.sparse_lists.specs.Coefficients.{coefficients}
+use Rattle.geo_poly.specs.Polynomials.{Summands, IsPolynomial, coefficient, norm_of, sum_of, term_cmp}
 use Rattle.geo_poly.specs.PolynomialVariables.{AllVariables}
 use Rattle.geo_poly.specs.Inner.Parts.{has, lacks}
 use Rattle.geo_poly.specs.Specialise.{degree_in, specialised, specialised_term, specialised_weight, without}
 use Rattle.geo_poly.proofs.Orders.{term_order}
-use Rattle.geo_poly.proofs.PolynomialLaws.{coefficients_add}
+use Rattle.sparse_lists.proofs.Coefficients.{coefficients_add}
 use Rattle.geo_poly.proofs.ReplaceTerms.{sum_of-polynomial_of}
 use Rattle.geo_poly.proofs.SpecialisedLaws.{AllKeys-specialised, AllKeys-weaker, norm_of-specialised-le, specialised-lacking, weight-lacking}
 use Rattle.geo_poly.proofs.ZeroPut.{IsCanonical-filter}

@@ -3,7 +3,8 @@ use Rattle.std.proofs.Common.{ℤ, [], ◌∷◌, ◌++◌}
 use Rattle.sparse_lists.specs.SparseLists.{AllKeys}
 use Rattle.sparse_lists.proofs.Sums.{AllKeys-append, AllKeys-canonical}
 use Rattle.geo_poly.specs.Monomials.{Powers, product}
-use Rattle.geo_poly.specs.Polynomials.{Summands, coefficients, difference_of, multiples, negated, product_of, products, sum_of, term_cmp}
+use Rattle.sparse_lists.specs.Coefficients.{coefficients}
+use Rattle.geo_poly.specs.Polynomials.{Summands, difference_of, multiples, negated, product_of, products, sum_of, term_cmp}
 
 module _ (A B C : Powers → Type 0) (both : (m n : Powers) → A m → B n → C (product m n)) where
   keys_multiples : (t : Powers × ℤ) (q : Summands) → A t.0 → AllKeys B q → AllKeys C (multiples t q)

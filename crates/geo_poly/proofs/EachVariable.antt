@@ -12,7 +12,8 @@ use Rattle.sparse_lists.proofs.Sums.{AllKeys-canonical, AllKeys-append}
 use Rattle.geo_poly.specs.declared.replacement.Row.{Row}
 use Rattle.geo_poly.specs.declared.variables.Var.{Var}
 use Rattle.geo_poly.specs.Monomials.{Powers, IsMonomial, exponent, exponents, product}
-use Rattle.geo_poly.specs.Polynomials.{Summands, coefficients, term_cmp, polynomial_of, multiples, products, product_of}
+use Rattle.sparse_lists.specs.Coefficients.{coefficients}
+use Rattle.geo_poly.specs.Polynomials.{Summands, term_cmp, polynomial_of, multiples, products, product_of}
 use Rattle.geo_poly.specs.Replace.{denominators, kept, most_denominators, numerator_power, numerators, others, power_of}
 use Rattle.geo_poly.specs.Replace.{replaced_by, replaced_term, replaced_terms, row_of}
 use Rattle.geo_poly.specs.Variables.{var_cmp}

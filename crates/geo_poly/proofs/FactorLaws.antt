@@ -8,9 +8,10 @@ use Rattle.geo_poly.specs.declared.variables.Var.{Var}
 use Rattle.geo_poly.specs.Variables.{var_cmp}
 use Rattle.sparse_lists.specs.SparseLists.{AllKeys, IsCanonical}
 use Rattle.geo_poly.specs.Monomials.{Powers, exponents, degree_of, IsMonomial}
-use Rattle.geo_poly.specs.Polynomials.{Summands, coefficients, term_cmp, multiples, product_of}
+use Rattle.sparse_lists.specs.Coefficients.{coefficients}
+use Rattle.geo_poly.specs.Polynomials.{Summands, term_cmp, multiples, product_of}
 use Rattle.geo_poly.proofs.Orders.{var_order, exponents_add, term_order}
-use Rattle.geo_poly.proofs.PolynomialLaws.{coefficients_add}
+use Rattle.sparse_lists.proofs.Coefficients.{coefficients_add}
 use Rattle.geo_poly.proofs.ProductLaws.{IsCanonical-multiples}
 use Rattle.sparse_lists.proofs.Canonical.{IsBefore-append, canonical_self}
 use Rattle.std.proofs.lemmas.List.{append-nil}

@@ -13,11 +13,13 @@ use Rattle.sparse_lists.proofs.Sums.{AllKeys-canonical, AllKeys-append}
 use Rattle.geo_poly.specs.declared.replacement.Piece.{Piece}
 use Rattle.geo_poly.specs.Inner.Factored.{Factored, count_with, degree_with, factored_products, factored_terms, factored_weight, products_with, times_pieces, weight_with}
 use Rattle.geo_poly.specs.Monomials.{IsMonomial, Powers, degree_of}
-use Rattle.geo_poly.specs.Polynomials.{CanMultiply, IsPolynomial, Summands, coefficient, coefficients, norm_of, polynomial_of, product_of, products, sum_of, term_cmp, total_degree}
+use Rattle.sparse_lists.specs.Coefficients.{coefficients}
+use Rattle.geo_poly.specs.Polynomials.{CanMultiply, IsPolynomial, Summands, coefficient, norm_of, polynomial_of, product_of, products, sum_of, term_cmp, total_degree}
 use Rattle.geo_poly.specs.Replace.{IsBounded}
 use Rattle.geo_poly.proofs.Lengths.{length-polynomial_of-le, length-product_of-le}
 use Rattle.geo_poly.proofs.Orders.{term_order}
-use Rattle.geo_poly.proofs.PolynomialLaws.{coefficients_add, norm_of-polynomial_of-le}
+use Rattle.sparse_lists.proofs.Coefficients.{coefficients_add}
+use Rattle.geo_poly.proofs.PolynomialLaws.{norm_of-polynomial_of-le}
 use Rattle.geo_poly.proofs.PolynomialRing.{products-left}
 use Rattle.geo_poly.proofs.ProductLaws.{IsCanonical-product_of, monomials_of_products, norm_of-product_of-le, product_of-append}
 use Rattle.geo_poly.proofs.ReplaceBounds.{UpTo, from_up_to, total_degree-product_of-le, up_to}

@@ -8,7 +8,8 @@ use Rattle.geo_poly.specs.declared.replacement.Piece.{Piece}
 use Rattle.geo_poly.specs.declared.variables.Var.{Var}
 use Rattle.geo_poly.specs.Inner.Factored.{Factored, degree_with, factored_terms, times_pieces}
 use Rattle.geo_poly.specs.Monomials.{Powers, degree_of, exponent, exponents, product}
-use Rattle.geo_poly.specs.Polynomials.{Summands, coefficients, multiples, polynomial_of, product_of, products, sum_of, term_cmp}
+use Rattle.sparse_lists.specs.Coefficients.{coefficients}
+use Rattle.geo_poly.specs.Polynomials.{Summands, multiples, polynomial_of, product_of, products, sum_of, term_cmp}
 use Rattle.geo_poly.specs.Polynomials.{total_degree}
 use Rattle.geo_poly.specs.Replace.{power_of}
 use Rattle.geo_poly.specs.Variables.{var_cmp}

@@ -16,12 +16,14 @@ use Rattle.mono_store.specs.Monomials.{monomial_cmp as numbered_cmp}
 use Rattle.mono_store.specs.Stores.{Keeps, Store, monomial_of}
 use Rattle.geo_poly.specs.declared.variables.Var.{Var}
 use Rattle.geo_poly.specs.Monomials.{Powers}
-use Rattle.geo_poly.specs.Polynomials.{Summands, coefficients, negated, norm_of, sum_of, term_cmp}
+use Rattle.sparse_lists.specs.Coefficients.{coefficients}
+use Rattle.geo_poly.specs.Polynomials.{Summands, negated, norm_of, sum_of, term_cmp}
 use Rattle.geo_poly.specs.Shared.{Indices, IsIndex, powers_at, term_of, terms_of}
 use Rattle.geo_poly.specs.Variables.{var_cmp}
 use Rattle.geo_poly.proofs.Naming.{cmp-named}
 use Rattle.geo_poly.proofs.Orders.{term_order}
-use Rattle.geo_poly.proofs.PolynomialLaws.{FitsSum, coefficients_add, fits_at}
+use Rattle.sparse_lists.proofs.Coefficients.{coefficients_add}
+use Rattle.geo_poly.proofs.PolynomialLaws.{FitsSum, fits_at}
 use Rattle.geo_poly.proofs.Told.{item, length-terms_of, take_more, terms_of-kept}
 
 pub AllKeys-drop : {K V : Type 0} (P : K → Type 0) (i : ℕ) (ts : List (K × V)) → AllKeys P ts → AllKeys P (drop i ts)

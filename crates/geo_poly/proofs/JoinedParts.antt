@@ -6,7 +6,8 @@ use Rattle.std.proofs.lemmas.List.Elements.{All-head}
 use Rattle.std.proofs.lemmas.List.Sums.{sum_by-cons}
 use Rattle.sparse_lists.specs.SparseLists.{AllKeys, IsCanonical}
 use Rattle.sparse_lists.proofs.Canonical.{canonical_self}
-use Rattle.poly_arena.specs.Chains.{Chains, Merges, Pairs, pairs_of}
+use Rattle.sparse_lists.specs.Coefficients.{coefficients, Pairs}
+use Rattle.poly_arena.specs.Chains.{Chains, Merges, pairs_of}
 use Rattle.geo_poly.specs.Chained.{AddsChain, SameChains, StandsUnder, keyed_terms_under}
 use Rattle.geo_poly.specs.declared.pending.Pending.{Pending}
 use Rattle.geo_poly.specs.declared.replacement.Piece.{Piece}
@@ -19,7 +20,7 @@ use Rattle.geo_poly.specs.Inner.Keyed.{ArePiecesInReach, HasRoom, KeepsKeys, exp
 use Rattle.geo_poly.specs.Inner.ReplacedExponents.{IsReplacedInReach, exponent_bound}
 use Rattle.geo_poly.specs.Keys.{Keys}
 use Rattle.geo_poly.specs.Monomials.{IsMonomial, Powers, degree_of, exponent}
-use Rattle.geo_poly.specs.Polynomials.{Summands, coefficients, norm_of, polynomial_of, sum_of, term_cmp, total_degree}
+use Rattle.geo_poly.specs.Polynomials.{Summands, norm_of, polynomial_of, sum_of, term_cmp, total_degree}
 use Rattle.geo_poly.specs.Replace.{others}
 use Rattle.geo_poly.specs.Shared.{told, told_powers}
 use Rattle.geo_poly.proofs.ChainPowers.{some}
@@ -30,7 +31,7 @@ use Rattle.geo_poly.proofs.InReach.{less_within}
 use Rattle.geo_poly.proofs.NestedSums.{all_deeper, all_within, degree_left, exponents_left, good_terms, norm_left, whole_products, whole_sum}
 use Rattle.geo_poly.proofs.Orders.{term_order}
 use Rattle.geo_poly.proofs.PieceReach.{with-grows}
-use Rattle.geo_poly.proofs.PolynomialLaws.{coefficients_add}
+use Rattle.sparse_lists.proofs.Coefficients.{coefficients_add}
 use Rattle.geo_poly.proofs.ReplaceTerms.{IsCanonical-polynomial_of, IsMonomial-others}
 
 -- WHERE NO CHAIN CHANGED BEFORE

@@ -6,14 +6,14 @@ use Rattle.std.proofs.lemmas.List.{map-append}
 use Rattle.std.proofs.lemmas.List.Sums.{sum_by-cons}
 use Rattle.sparse_lists.specs.SparseLists.{AllKeys, IsBefore, IsCanonical, canonical}
 use Rattle.sparse_lists.proofs.Sums.{AllKeys-append, AllKeys-canonical}
-use Rattle.poly_arena.specs.Chains.{Pairs}
-use Rattle.poly_arena.specs.Orders.{IsFalling, SumsFit, sum_of as chain_sum}
+use Rattle.sparse_lists.specs.Coefficients.{coefficients, Pairs, sum_of as chain_sum}
+use Rattle.poly_arena.specs.Orders.{IsFalling, SumsFit}
 use Rattle.geo_poly.specs.declared.variables.Var.{Var}
 use Rattle.geo_poly.specs.Chained.{indexed_pair, keyed_term_under, keyed_terms_under}
 use Rattle.geo_poly.specs.Inner.Keyed.{IsIndexUnder, KeepsKeys, key_cmp, terms_under}
 use Rattle.geo_poly.specs.Keys.{IsKeyUnder, Keys}
 use Rattle.geo_poly.specs.Monomials.{Powers}
-use Rattle.geo_poly.specs.Polynomials.{Summands, coefficients, norm_of, sum_of, term_cmp}
+use Rattle.geo_poly.specs.Polynomials.{Summands, norm_of, sum_of, term_cmp}
 use Rattle.geo_poly.specs.Shared.{Indices, named}
 use Rattle.geo_poly.specs.Variables.{var_cmp}
 use Rattle.geo_poly.proofs.Naming.{canonical-rename, cmp-named}

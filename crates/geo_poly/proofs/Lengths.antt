@@ -6,9 +6,10 @@ use Rattle.std.proofs.lemmas.List.Sums.{sum_by-cons}
 use Rattle.sparse_lists.specs.SparseLists.{IsCanonical}
 use Rattle.sparse_lists.proofs.Sums.{sum_by-canonical-le}
 use Rattle.geo_poly.specs.Monomials.{Powers, product}
-use Rattle.geo_poly.specs.Polynomials.{Summands, coefficients, IsPolynomial, multiples, negated, norm_of, polynomial_of, product_of, products, sum_of, term_cmp}
+use Rattle.sparse_lists.specs.Coefficients.{coefficients}
+use Rattle.geo_poly.specs.Polynomials.{Summands, IsPolynomial, multiples, negated, norm_of, polynomial_of, product_of, products, sum_of, term_cmp}
 use Rattle.geo_poly.proofs.Orders.{term_order}
-use Rattle.geo_poly.proofs.PolynomialLaws.{coefficients_add}
+use Rattle.sparse_lists.proofs.Coefficients.{coefficients_add}
 
 each_one : (p : Summands) → sum_by (λ t. 1) p ≡ length p
 each_one [] = refl

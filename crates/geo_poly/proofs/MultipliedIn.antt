@@ -14,7 +14,8 @@ use Rattle.geo_poly.specs.Inner.Keyed.{AreInReach, ArePiecesInReach, terms_under
 use Rattle.geo_poly.specs.Inner.Settings.{AreStoredUnder, IsSetUnder, IsStoredUnder}
 use Rattle.geo_poly.specs.Keys.{Keys}
 use Rattle.geo_poly.specs.Monomials.{IsMonomial, Powers}
-use Rattle.geo_poly.specs.Polynomials.{CanMultiply, Summands, coefficients, norm_of, product_of, term_cmp, total_degree}
+use Rattle.sparse_lists.specs.Coefficients.{coefficients}
+use Rattle.geo_poly.specs.Polynomials.{CanMultiply, Summands, norm_of, product_of, term_cmp, total_degree}
 use Rattle.geo_poly.specs.Shared.{Indices, named}
 use Rattle.geo_poly.proofs.ChainPowers.{orders}
 use Rattle.geo_poly.proofs.FactoredTerms.{CanMultiply-times_pieces, degree_with-append, degree_with-is, length-times_pieces-le, products_with-append, weight_with-append, weight_with-grows}

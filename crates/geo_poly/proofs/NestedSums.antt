@@ -19,7 +19,8 @@ use Rattle.geo_poly.specs.Keys.{Keys}
 use Rattle.geo_poly.specs.Inner.Keyed.{exponent_with, greatest_exponent}
 use Rattle.geo_poly.specs.Inner.ReplacedExponents.{exponent_bound}
 use Rattle.geo_poly.specs.Monomials.{Powers, degree_of, exponent}
-use Rattle.geo_poly.specs.Polynomials.{Summands, coefficients, norm_of, polynomial_of, sum_of, term_cmp, total_degree}
+use Rattle.sparse_lists.specs.Coefficients.{coefficients}
+use Rattle.geo_poly.specs.Polynomials.{Summands, norm_of, polynomial_of, sum_of, term_cmp, total_degree}
 use Rattle.geo_poly.specs.Replace.{others}
 use Rattle.geo_poly.specs.Shared.{told, told_powers}
 use Rattle.geo_poly.proofs.FactoredTerms.{AllGood, AllGoodTerms, AllWithin, degree_with-append, degree_with-is, factored_count}

@@ -6,7 +6,8 @@ use Rattle.std.specs.declared.cmp.Ordering.TheVariants.{Less}
 use Rattle.sparse_lists.specs.SparseLists.{AllKeys, IsCanonical}
 use Rattle.sparse_lists.proofs.Canonical.{IsBefore_trans, canonical_self}
 use Rattle.sparse_lists.proofs.Merging.{drop_at}
-use Rattle.poly_arena.specs.Chains.{Chains, Pairs, list_of, pairs_of}
+use Rattle.sparse_lists.specs.Coefficients.{coefficients, Pairs}
+use Rattle.poly_arena.specs.Chains.{Chains, list_of, pairs_of}
 use Rattle.geo_poly.specs.Chained.{keyed_terms_under}
 use Rattle.geo_poly.specs.declared.pending.Pending.{Pending}
 use Rattle.geo_poly.specs.declared.settings.Setting.{Setting}
@@ -17,7 +18,7 @@ use Rattle.geo_poly.specs.Inner.Keyed.{KeepsKeys}
 use Rattle.geo_poly.specs.Inner.Runs.{IsNextKey, first_key}
 use Rattle.geo_poly.specs.Keys.{IsKeyUnder, Keys}
 use Rattle.geo_poly.specs.Monomials.{Powers}
-use Rattle.geo_poly.specs.Polynomials.{Summands, coefficients, polynomial_of, term_cmp}
+use Rattle.geo_poly.specs.Polynomials.{Summands, polynomial_of, term_cmp}
 use Rattle.geo_poly.specs.Replace.{others}
 use Rattle.geo_poly.specs.Shared.{named, told_powers}
 use Rattle.geo_poly.specs.Variables.{var_cmp}
@@ -25,7 +26,7 @@ use Rattle.geo_poly.proofs.ChainPowers.{some}
 use Rattle.geo_poly.proofs.KeyedChains.{keyed_terms-kept, keys-kept}
 use Rattle.geo_poly.proofs.Naming.{cmp-named}
 use Rattle.geo_poly.proofs.Orders.{term_order}
-use Rattle.geo_poly.proofs.PolynomialLaws.{coefficients_add}
+use Rattle.sparse_lists.proofs.Coefficients.{coefficients_add}
 
 -- THE FIRST KEY
 

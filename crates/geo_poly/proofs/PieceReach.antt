@@ -8,7 +8,8 @@ use Rattle.geo_poly.specs.Inner.Factored.{times_pieces}
 use Rattle.geo_poly.specs.Inner.Keyed.{AreInReach, ArePiecesInReach, exponent_with, greatest_exponent}
 use Rattle.geo_poly.specs.Keys.{Keys}
 use Rattle.geo_poly.specs.Monomials.{Powers, exponent}
-use Rattle.geo_poly.specs.Polynomials.{Summands, coefficients, multiples, product_of, products, term_cmp}
+use Rattle.sparse_lists.specs.Coefficients.{coefficients}
+use Rattle.geo_poly.specs.Polynomials.{Summands, multiples, product_of, products, term_cmp}
 use Rattle.geo_poly.proofs.InReach.{less_within}
 use Rattle.geo_poly.proofs.MonomialOrder.{exponent-product}
 

@@ -1,30 +1,16 @@
 -- Sums of polynomials.
-use Rattle.std.proofs.Common.{◌≡◌, ℕ, ◌+◌, ◌^◌, ◌<◌, ◌≤◌, eqb, Bool, true, false, ℤ, pos, negsuc, ◌+ℤ◌, ◌++◌, refl, sym, ap, subst, ◌∙◌}
+use Rattle.std.proofs.Common.{◌≡◌, ℕ, ◌+◌, ◌^◌, ◌<◌, ◌≤◌, eqb, Bool, true, false, ℤ, pos, ◌+ℤ◌, ◌++◌, refl, sym, ap, subst, ◌∙◌}
 use Rattle.std.proofs.Common.{unsigned_abs, length, get_or, FitsSigned, to_z, of_z, ap₂, arith}
 use Rattle.std.proofs.lemmas.Int.{ints, to_z-of_z, fits_signed_from_abs}
 use Rattle.std.specs.Int.{w128}
-use Rattle.std.proofs.lemmas.Bool.Decides.{nat_tests}
 use Rattle.std.proofs.lemmas.List.Sums.{sum_by-append, get_or-le-sum_by}
-use Rattle.sparse_lists.specs.SparseLists.{IsAdditive}
 use Rattle.geo_poly.specs.Monomials.{Powers, IsMonomial}
-use Rattle.geo_poly.specs.Polynomials.{Summands, coefficients, term_cmp, polynomial_of, norm_of, IsPolynomial, sum_of}
+use Rattle.sparse_lists.specs.Coefficients.{coefficients}
+use Rattle.geo_poly.specs.Polynomials.{Summands, term_cmp, polynomial_of, norm_of, IsPolynomial, sum_of}
 use Rattle.geo_poly.proofs.Orders.{term_order}
 use Rattle.sparse_lists.proofs.Canonical.{IsCanonical-canonical}
+use Rattle.sparse_lists.proofs.Coefficients.{coefficients_add, zero_is}
 use Rattle.sparse_lists.proofs.Sums.{sum_by-canonical-le, AllKeys-canonical, AllKeys-append}
-
-zero_is : (a : ℤ) → eqb (unsigned_abs a) 0 ≡ true → a ≡ pos 0
-zero_is (pos n) e = let n-is : n ≡ 0 = grind (arith, nat_tests) in ap pos n-is
-zero_is (negsuc n) e = absurd (grind (arith, nat_tests))
-
-pub coefficients_add : IsAdditive coefficients
-coefficients_add = record {
-  comm = λ a b. omega (arith, ints);
-  assoc = λ a b c. omega (arith, ints);
-  zero-add = λ a. omega (arith, ints);
-  cancel = λ a b c e. omega (arith, ints);
-  zero_is = zero_is;
-  is_zero-zero = refl;
-}
 
 pub unsigned_abs-add-le : (a b : ℤ) → unsigned_abs (a +ℤ b) ≤ unsigned_abs a + unsigned_abs b
 unsigned_abs-add-le a b = omega (arith, ints)

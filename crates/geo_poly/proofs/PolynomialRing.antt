@@ -10,11 +10,12 @@ use Rattle.sparse_lists.proofs.Canonical.{IsCanonical-canonical, canonical-canon
 use Rattle.sparse_lists.proofs.Sums.{AllKeys-append, AllKeys-canonical}
 use Rattle.sparse_lists.proofs.Totals.{Monoid, total, total-canonical}
 use Rattle.geo_poly.specs.Monomials.{Powers, exponents, product}
-use Rattle.geo_poly.specs.Polynomials.{Summands, coefficients, constant_of, multiples, polynomial_of, product_of, products, term_cmp}
+use Rattle.sparse_lists.specs.Coefficients.{coefficients}
+use Rattle.geo_poly.specs.Polynomials.{Summands, constant_of, multiples, polynomial_of, product_of, products, term_cmp}
 use Rattle.geo_poly.specs.Replace.{power_of}
 use Rattle.geo_poly.specs.Variables.{var_cmp}
 use Rattle.geo_poly.proofs.Orders.{exponents_add, term_order, var_order}
-use Rattle.geo_poly.proofs.PolynomialLaws.{coefficients_add}
+use Rattle.sparse_lists.proofs.Coefficients.{coefficients_add}
 use Rattle.geo_poly.proofs.ProductLaws.{products-append}
 
 abbrev one : Summands

@@ -11,13 +11,15 @@ use Rattle.std.proofs.lemmas.List.Sums.{sum_by-cons, sum_by-append, get_or-le-su
 use Rattle.geo_poly.specs.Variables.{var_cmp}
 use Rattle.sparse_lists.specs.SparseLists.{AllKeys, IsBefore, IsCanonical, canonical}
 use Rattle.geo_poly.specs.Monomials.{Powers, exponents, IsMonomial, degree_of, product, monomial_cmp}
-use Rattle.geo_poly.specs.Polynomials.{Summands, coefficients, term_cmp, norm_of, total_degree, IsPolynomial, sum_of, multiples, products, product_of, CanMultiply}
+use Rattle.sparse_lists.specs.Coefficients.{coefficients}
+use Rattle.geo_poly.specs.Polynomials.{Summands, term_cmp, norm_of, total_degree, IsPolynomial, sum_of, multiples, products, product_of, CanMultiply}
 use Rattle.geo_poly.proofs.Orders.{term_order, var_order, exponents_add}
 use Rattle.sparse_lists.proofs.Canonical.{IsCanonical-canonical, canonical_self, canonical-canonical_left, canonical_comm}
 use Rattle.sparse_lists.proofs.Sums.{AllKeys-canonical, AllKeys-append}
 use Rattle.geo_poly.proofs.MonomialLaws.{IsMonomial-product}
 use Rattle.geo_poly.proofs.MonomialOrder.{IsEarlier-from_cmp, cmp_from_IsEarlier, IsEarlier-product}
-use Rattle.geo_poly.proofs.PolynomialLaws.{coefficients_add, norm_of-polynomial_of-le}
+use Rattle.sparse_lists.proofs.Coefficients.{coefficients_add}
+use Rattle.geo_poly.proofs.PolynomialLaws.{norm_of-polynomial_of-le}
 
 norm : Powers × ℤ → ℕ
 norm t = unsigned_abs t.1

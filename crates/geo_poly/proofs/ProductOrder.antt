@@ -5,9 +5,10 @@ use Rattle.std.proofs.Math.IntN.{*ℤ_comm}
 use Rattle.sparse_lists.proofs.Canonical.{amount-append, canonical_comm, canonical_same}
 use Rattle.geo_poly.specs.Variables.{var_cmp}
 use Rattle.geo_poly.specs.Monomials.{Powers, exponents, product}
-use Rattle.geo_poly.specs.Polynomials.{Summands, coefficient, coefficients, multiples, product_of, products, term_cmp}
+use Rattle.sparse_lists.specs.Coefficients.{coefficients}
+use Rattle.geo_poly.specs.Polynomials.{Summands, coefficient, multiples, product_of, products, term_cmp}
 use Rattle.geo_poly.proofs.Orders.{exponents_add, term_order, var_order}
-use Rattle.geo_poly.proofs.PolynomialLaws.{coefficients_add}
+use Rattle.sparse_lists.proofs.Coefficients.{coefficients_add}
 
 product_comm : (m n : Powers) → product m n ≡ product n m
 product_comm m n = canonical_comm var_cmp exponents var_order exponents_add m n

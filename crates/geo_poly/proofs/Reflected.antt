@@ -7,7 +7,8 @@ use Rattle.std.proofs.lemmas.Bool.Decides.{nat_tests}
 use Rattle.std.proofs.lemmas.Int.{unsigned_abs-mul}
 use Rattle.sparse_lists.specs.SparseLists.{AllKeys, IsBefore, IsCanonical}
 use Rattle.geo_poly.specs.Monomials.{Powers, IsMonomial, product}
-use Rattle.geo_poly.specs.Polynomials.{Summands, coefficients, term_cmp, norm_of, multiples, IsPolynomial}
+use Rattle.sparse_lists.specs.Coefficients.{coefficients}
+use Rattle.geo_poly.specs.Polynomials.{Summands, term_cmp, norm_of, multiples, IsPolynomial}
 use Rattle.geo_poly.proofs.Orders.{term_order}
 use Rattle.geo_poly.proofs.ProductLaws.{later, norm_of-multiples}
 

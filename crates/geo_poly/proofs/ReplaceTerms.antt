@@ -8,13 +8,15 @@ use Rattle.geo_poly.specs.declared.replacement.Row.{Row}
 use Rattle.geo_poly.specs.Variables.{var_cmp}
 use Rattle.sparse_lists.specs.SparseLists.{AllKeys, IsBefore, IsCanonical}
 use Rattle.geo_poly.specs.Monomials.{Powers, exponents, IsMonomial, degree_of}
-use Rattle.geo_poly.specs.Polynomials.{Summands, coefficients, term_cmp, norm_of, total_degree, IsPolynomial, polynomial_of, product_of, products, sum_of}
+use Rattle.sparse_lists.specs.Coefficients.{coefficients}
+use Rattle.geo_poly.specs.Polynomials.{Summands, term_cmp, norm_of, total_degree, IsPolynomial, polynomial_of, product_of, products, sum_of}
 use Rattle.geo_poly.specs.Replace.{IsBounded, AllBounded, row_of, denominators, kept, numerator_power, numerators, others, power_of, replaced_term}
 use Rattle.geo_poly.specs.Replace.{replaced_terms, weight_row, weight_rows, term_weight, degree_row, degree_rows, term_degree, weight_of}
 use Rattle.geo_poly.specs.Replace.{degree_bound, CanReplace}
 use Rattle.geo_poly.proofs.Orders.{term_order}
 use Rattle.sparse_lists.proofs.Canonical.{IsCanonical-canonical, canonical-canonical_left, canonical_comm}
-use Rattle.geo_poly.proofs.PolynomialLaws.{coefficients_add, norm_of-polynomial_of-le}
+use Rattle.sparse_lists.proofs.Coefficients.{coefficients_add}
+use Rattle.geo_poly.proofs.PolynomialLaws.{norm_of-polynomial_of-le}
 use Rattle.sparse_lists.proofs.Sums.{AllKeys-canonical, AllKeys-append}
 use Rattle.geo_poly.proofs.ProductLaws.{monomials_of_products, norm_of-product_of-le}
 use Rattle.geo_poly.proofs.ReplaceBounds.{norm_of-power_of-le, total_degree-power_of-le, total_degree-product_of-le}

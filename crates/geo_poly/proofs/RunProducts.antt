@@ -9,7 +9,7 @@ use Rattle.sparse_lists.proofs.Sums.{AllKeys-canonical}
 use Rattle.mono_store.specs.declared.links.MonoId.{MonoId}
 use Rattle.mono_store.specs.Words.{Limits, word_count}
 use Rattle.mono_store.proofs.WordDigits.{monomial_cmp-powers_of_word}
-use Rattle.poly_arena.specs.Chains.{Pairs, scaled}
+use Rattle.sparse_lists.specs.Coefficients.{coefficients, Pairs, scaled}
 use Rattle.geo_poly.specs.declared.variables.Var.{Var}
 use Rattle.geo_poly.specs.Chained.{indexed_pair}
 use Rattle.geo_poly.specs.Inner.Keyed.{AreInReach, IsIndexUnder, term_under, terms_under}
@@ -17,7 +17,7 @@ use Rattle.geo_poly.specs.Inner.Words.{word_keys}
 use Rattle.geo_poly.specs.Inner.WordSums.{word_multiples, word_products}
 use Rattle.geo_poly.specs.Keys.{IsKeyUnder, Keys}
 use Rattle.geo_poly.specs.Monomials.{Powers}
-use Rattle.geo_poly.specs.Polynomials.{CanMultiply, coefficients, norm_of, polynomial_of, product_of, term_cmp}
+use Rattle.geo_poly.specs.Polynomials.{CanMultiply, norm_of, polynomial_of, product_of, term_cmp}
 use Rattle.geo_poly.specs.Shared.{Indices, named}
 use Rattle.geo_poly.specs.Variables.{var_cmp}
 use Rattle.geo_poly.proofs.KeyedChains.{chain_indices, chain_terms}

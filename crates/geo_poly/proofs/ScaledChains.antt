@@ -7,7 +7,8 @@ use native.Mathlib.Nat.{mul-le-mul}
 use Rattle.sparse_lists.specs.SparseLists.{AllKeys}
 use Rattle.mono_store.specs.declared.links.MonoId.{MonoId}
 use Rattle.mono_store.specs.Monomials.{product as numbered_product}
-use Rattle.poly_arena.specs.Chains.{CanScale, Pairs, scaled}
+use Rattle.sparse_lists.specs.Coefficients.{Pairs, scaled}
+use Rattle.poly_arena.specs.Chains.{CanScale}
 use Rattle.geo_poly.specs.declared.variables.Var.{Var}
 use Rattle.geo_poly.specs.Chained.{keyed_term_under, keyed_terms_under}
 use Rattle.geo_poly.specs.Inner.Keyed.{AddsUp, AreInReach, IsIndexUnder, greatest_exponent, term_under}

@@ -23,11 +23,13 @@ use Rattle.sparse_lists.proofs.Sums.{AllKeys-canonical, sum_by-canonical-le}
 use Rattle.geo_poly.specs.declared.variables.Var.{Var}
 use Rattle.geo_poly.specs.Variables.{var_cmp}
 use Rattle.geo_poly.specs.Monomials.{Powers, exponents, exponent, degree_of, IsMonomial}
-use Rattle.geo_poly.specs.Polynomials.{Summands, coefficients, term_cmp, polynomial_of, norm_of, total_degree, IsPolynomial, sum_of}
+use Rattle.sparse_lists.specs.Coefficients.{coefficients}
+use Rattle.geo_poly.specs.Polynomials.{Summands, term_cmp, polynomial_of, norm_of, total_degree, IsPolynomial, sum_of}
 use Rattle.geo_poly.specs.Values.{integer, monomial_value, value}
 use Rattle.geo_poly.specs.Specialise.{without, specialised_term, specialised, specialised_weight, degree_in, IsCollected, IsSmaller}
 use Rattle.geo_poly.proofs.Orders.{var_order, term_order}
-use Rattle.geo_poly.proofs.PolynomialLaws.{coefficients_add, norm_of-polynomial_of-le}
+use Rattle.sparse_lists.proofs.Coefficients.{coefficients_add}
+use Rattle.geo_poly.proofs.PolynomialLaws.{norm_of-polynomial_of-le}
 use Rattle.geo_poly.proofs.ProductLaws.{IsCanonical_front, IsCanonical_back}
 use Rattle.geo_poly.proofs.ReplaceTerms.{sum_of-polynomial_of, IsCanonical-polynomial_of}
 use Rattle.geo_poly.proofs.Values.{integer-mul, value-polynomial_of}

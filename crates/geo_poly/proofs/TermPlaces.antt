@@ -11,7 +11,8 @@ use Rattle.geo_poly.specs.declared.shared.Shared.{Shared}
 use Rattle.geo_poly.specs.declared.variables.Var.{Var}
 use Rattle.geo_poly.specs.Monomials.{IsMonomial, Powers}
 use Rattle.geo_poly.specs.PolynomialVariables.{AllVariables}
-use Rattle.geo_poly.specs.Polynomials.{Summands, coefficients, term_cmp}
+use Rattle.sparse_lists.specs.Coefficients.{coefficients}
+use Rattle.geo_poly.specs.Polynomials.{Summands, term_cmp}
 use Rattle.geo_poly.specs.Replace.{CanReplace, degree_bound, denominators, most_denominators, term_degree}
 use Rattle.geo_poly.specs.Shared.{told, told_term}
 use Rattle.geo_poly.specs.Inner.ReplacedExponents.{exponent_bound, term_exponent}

@@ -10,10 +10,11 @@ use Rattle.ring_laws.proofs.Powers.{power-add}
 use Rattle.geo_poly.specs.declared.variables.Var.{Var}
 use Rattle.geo_poly.specs.Variables.{var_cmp}
 use Rattle.geo_poly.specs.Monomials.{Powers, exponents, product}
-use Rattle.geo_poly.specs.Polynomials.{Summands, coefficients, term_cmp, polynomial_of, sum_of, multiples, products, product_of}
+use Rattle.sparse_lists.specs.Coefficients.{coefficients}
+use Rattle.geo_poly.specs.Polynomials.{Summands, term_cmp, polynomial_of, sum_of, multiples, products, product_of}
 use Rattle.geo_poly.specs.Values.{integer, monomial_value, value}
 use Rattle.geo_poly.proofs.Orders.{var_order, exponents_add, term_order}
-use Rattle.geo_poly.proofs.PolynomialLaws.{coefficients_add}
+use Rattle.sparse_lists.proofs.Coefficients.{coefficients_add}
 use Rattle.sparse_lists.proofs.Totals.{additive, multiplicative, total, total-append, total-canonical}
 
 module _ (R : Ring) where

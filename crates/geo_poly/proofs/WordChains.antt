@@ -14,12 +14,12 @@ use Rattle.sparse_lists.proofs.NaturalAmounts.{natural_order}
 use Rattle.sparse_lists.proofs.Sums.{AllKeys-append, AllKeys-canonical}
 use Rattle.mono_store.specs.Monomials.{Powers as NumberedPowers, exponents, monomial_cmp as numbered_cmp, product as numbered_product}
 use Rattle.mono_store.proofs.Numbers.{exponents_add}
-use Rattle.poly_arena.specs.Chains.{Pairs}
-use Rattle.poly_arena.specs.Orders.{IsFalling, SumsFit, sum_of as chain_sum}
+use Rattle.sparse_lists.specs.Coefficients.{coefficients, Pairs, sum_of as chain_sum}
+use Rattle.poly_arena.specs.Orders.{IsFalling, SumsFit}
 use Rattle.geo_poly.specs.declared.variables.Var.{Var}
 use Rattle.mono_store.specs.Words.{FitsLimits, Limits, limit, powers_of_word, word, word_count}
 use Rattle.geo_poly.specs.Monomials.{Powers, exponent, product}
-use Rattle.geo_poly.specs.Polynomials.{Summands, coefficients, multiples, norm_of, sum_of, term_cmp}
+use Rattle.geo_poly.specs.Polynomials.{Summands, multiples, norm_of, sum_of, term_cmp}
 use Rattle.geo_poly.specs.Shared.{AllPlaces, named, var_at}
 use Rattle.geo_poly.specs.Variables.{var_cmp}
 use Rattle.geo_poly.proofs.Gradings.{exponent_grading, top_grade}

@@ -8,8 +8,8 @@ use Rattle.sparse_lists.proofs.NaturalAmounts.{natural_order}
 use Rattle.sparse_lists.proofs.Sums.{AllKeys-append}
 use Rattle.mono_store.specs.Monomials.{exponents, product}
 use Rattle.mono_store.proofs.Numbers.{exponents_add}
-use Rattle.poly_arena.specs.Chains.{Pairs}
-use Rattle.poly_arena.specs.Orders.{IsFalling, coefficients, sum_of}
+use Rattle.sparse_lists.specs.Coefficients.{coefficients, Pairs, sum_of}
+use Rattle.poly_arena.specs.Orders.{IsFalling}
 use Rattle.geo_poly.specs.Inner.Keyed.{IsInReach, key_cmp}
 use Rattle.mono_store.specs.Words.{FitsLimits, Limits, powers_of_word, word_count}
 use Rattle.geo_poly.specs.Inner.Words.{word_keys}

@@ -15,7 +15,8 @@ use Rattle.sparse_lists.proofs.Sums.{AllKeys-at}
 use Rattle.mono_store.specs.declared.links.MonoId.{MonoId}
 use Rattle.geo_poly.specs.Inner.WordSums.{size_of, sum_at, word_multiples}
 use Rattle.geo_poly.specs.Shared.{Indices}
-use Rattle.geo_poly.proofs.PolynomialLaws.{coefficients_add, unsigned_abs-add-le}
+use Rattle.sparse_lists.proofs.Coefficients.{coefficients_add}
+use Rattle.geo_poly.proofs.PolynomialLaws.{unsigned_abs-add-le}
 use Rattle.geo_poly.proofs.Told.{item, take_more}
 use Rattle.geo_poly.proofs.WordSums.{sum_at-append, sum_at-here, sum_at-le, sum_at-other}
 

@@ -12,7 +12,7 @@ use Rattle.mono_store.specs.declared.links.MonoId.{MonoId}
 use Rattle.mono_store.specs.Monomials.{Powers as NumberedPowers, product as numbered_product}
 use Rattle.mono_store.specs.Words.{Limits, powers_of_word, word_count}
 use Rattle.mono_store.proofs.WordDigits.{monomial_cmp-powers_of_word}
-use Rattle.poly_arena.specs.Chains.{Pairs}
+use Rattle.sparse_lists.specs.Coefficients.{coefficients, Pairs}
 use Rattle.geo_poly.specs.declared.variables.Var.{Var}
 use Rattle.geo_poly.specs.Chained.{indexed_pair, keyed_term_under, keyed_terms_under}
 use Rattle.geo_poly.specs.Inner.Keyed.{AreInReach, IsInReach, IsIndexUnder, greatest_exponent, term_under, terms_under}
@@ -20,7 +20,7 @@ use Rattle.geo_poly.specs.Inner.Words.{word_keys}
 use Rattle.geo_poly.specs.Inner.WordSums.{AreSums, nonzero_below, size_of, sum_at, word_multiples, word_products}
 use Rattle.geo_poly.specs.Keys.{IsKeyUnder, Keys}
 use Rattle.geo_poly.specs.Monomials.{Powers, exponent, product}
-use Rattle.geo_poly.specs.Polynomials.{CanMultiply, Summands, coefficients, multiples, norm_of, polynomial_of, product_of, products, term_cmp}
+use Rattle.geo_poly.specs.Polynomials.{CanMultiply, Summands, multiples, norm_of, polynomial_of, product_of, products, term_cmp}
 use Rattle.geo_poly.specs.Shared.{AllPlaces, Indices, named}
 use Rattle.geo_poly.specs.Variables.{var_cmp}
 use Rattle.geo_poly.proofs.InReach.{in_reach}

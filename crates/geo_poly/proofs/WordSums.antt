@@ -10,10 +10,10 @@ use Rattle.sparse_lists.specs.SparseLists.{AllKeys, IsBefore, IsCanonical, IsKey
 use Rattle.sparse_lists.proofs.Canonical.{IsBefore-put, IsCanonical-canonical, IsCanonical-put, amount-append, amount-before, amount-canonical, amount-head, amount-put, same_list}
 use Rattle.sparse_lists.proofs.NaturalAmounts.{natural_order}
 use Rattle.mono_store.proofs.Numbers.{below}
-use Rattle.poly_arena.specs.Chains.{Pairs}
+use Rattle.sparse_lists.specs.Coefficients.{coefficients, Pairs}
 use Rattle.geo_poly.specs.Inner.WordSums.{AreSums, nonzero_below, size_of, sum_at}
-use Rattle.geo_poly.specs.Polynomials.{coefficients}
-use Rattle.geo_poly.proofs.PolynomialLaws.{coefficients_add, unsigned_abs-add-le}
+use Rattle.sparse_lists.proofs.Coefficients.{coefficients_add}
+use Rattle.geo_poly.proofs.PolynomialLaws.{unsigned_abs-add-le}
 
 abbrev falling : ℕ → ℕ → Ordering
 falling = flip_args nat_cmp

@@ -11,11 +11,12 @@ use Rattle.sparse_lists.specs.SparseLists.{AllKeys, IsBefore, IsCanonical, inser
 use Rattle.sparse_lists.proofs.Canonical.{IsCanonical-insert, amount-insert, insert_before, same_list}
 use Rattle.geo_poly.specs.declared.variables.Var.{Var}
 use Rattle.geo_poly.specs.Monomials.{Powers, IsMonomial, exponent}
-use Rattle.geo_poly.specs.Polynomials.{Summands, coefficient, coefficients, term_cmp}
+use Rattle.sparse_lists.specs.Coefficients.{coefficients}
+use Rattle.geo_poly.specs.Polynomials.{Summands, coefficient, term_cmp}
 use Rattle.geo_poly.specs.Inner.Parts.{lacks}
 use Rattle.geo_poly.specs.Specialise.{specialised, without}
 use Rattle.geo_poly.proofs.Orders.{term_order}
-use Rattle.geo_poly.proofs.PolynomialLaws.{coefficients_add}
+use Rattle.sparse_lists.proofs.Coefficients.{coefficients_add}
 use Rattle.geo_poly.proofs.SpecialisedLaws.{times_power_zero, without-lacking}
 use Rattle.geo_poly.proofs.Told.{take_more}
 use Rattle.geo_poly.proofs.WholePowers.{unsigned_abs-int_pow}

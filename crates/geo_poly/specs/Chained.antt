@@ -3,7 +3,8 @@ use Rattle.std.specs.Prelude.{◌≡◌, ◌≢◌, ℕ, ℤ, List, map, None}
 use Rattle.sparse_lists.specs.SparseLists.{AllKeys}
 use Rattle.mono_store.specs.declared.links.MonoId.{MonoId}
 use Rattle.mono_store.specs.Stores.{Store}
-use Rattle.poly_arena.specs.Chains.{Chains, IsLive, Pairs, list_of, pairs_of}
+use Rattle.sparse_lists.specs.Coefficients.{Pairs}
+use Rattle.poly_arena.specs.Chains.{Chains, IsLive, list_of, pairs_of}
 use Rattle.geo_poly.specs.declared.variables.Var.{Var}
 use Rattle.geo_poly.specs.Monomials.{Powers}
 use Rattle.geo_poly.specs.Polynomials.{Summands}

@@ -5,7 +5,8 @@ use Rattle.geo_poly.specs.declared.variables.Var.{Var}
 use Rattle.sparse_lists.specs.SparseLists.{IsCanonical}
 use Rattle.geo_poly.specs.Variables.{var_cmp}
 use Rattle.geo_poly.specs.Monomials.{Powers, IsMonomial, exponent, product, monomial_cmp, IsEarlier}
-use Rattle.geo_poly.specs.Polynomials.{Summands, coefficients, term_cmp, coefficient, polynomial_of, sum_of}
+use Rattle.sparse_lists.specs.Coefficients.{coefficients}
+use Rattle.geo_poly.specs.Polynomials.{Summands, term_cmp, coefficient, polynomial_of, sum_of}
 
 -- variables that compare as equal are the same
 abbrev pub OrderTellsVariables : Type 0

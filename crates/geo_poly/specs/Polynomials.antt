@@ -1,17 +1,14 @@
 -- A polynomial: its monomials with nonzero whole numbers, the greatest monomial first.
-use Rattle.std.specs.Prelude.{ℕ, ◌+◌, ◌*◌, ◌^◌, ◌<◌, ◌≤◌, ◌==◌, max, ℤ, pos, ◌+ℤ◌, ◌*ℤ◌, neg_ℤ, List, [], ◌∷◌, ◌++◌, map, slice_index_or, sum_by, unsigned_abs}
+use Rattle.std.specs.Prelude.{ℕ, ◌+◌, ◌*◌, ◌^◌, ◌<◌, ◌≤◌, max, ℤ, pos, ◌*ℤ◌, neg_ℤ, List, [], ◌∷◌, ◌++◌, map, slice_index_or, sum_by, unsigned_abs}
 use Rattle.std.specs.Ordering.{flip_args}
 use Rattle.std.specs.declared.cmp.Ordering.{Ordering}
-use Rattle.sparse_lists.specs.SparseLists.{Amounts, AllKeys, IsCanonical, amount, canonical, put}
+use Rattle.sparse_lists.specs.Coefficients.{coefficients}
+use Rattle.sparse_lists.specs.SparseLists.{AllKeys, IsCanonical, amount, canonical, put}
 use Rattle.geo_poly.specs.Monomials.{Powers, IsMonomial, degree_of, monomial_cmp, product}
 
 -- monomials with their coefficients
 abbrev pub Summands : Type 0
 Summands = List (Powers × ℤ)
-
--- coefficients add up, and 0 is that of an absent monomial
-abbrev pub coefficients : Amounts ℤ
-coefficients = record { zero = pos 0; add = ◌+ℤ◌; is_zero = λ c. unsigned_abs c == 0 }
 
 -- `Less` at the monomial that stands first, which is the greater one
 abbrev pub term_cmp : Powers → Powers → Ordering

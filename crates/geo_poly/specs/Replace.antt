@@ -8,7 +8,8 @@ use Rattle.geo_poly.specs.declared.replacement.Row.{Row}
 use Rattle.geo_poly.specs.Variables.{var_cmp}
 use Rattle.sparse_lists.specs.SparseLists.{AllKeys, IsCanonical}
 use Rattle.geo_poly.specs.Monomials.{Powers, IsMonomial, degree_of}
-use Rattle.geo_poly.specs.Polynomials.{Summands, coefficients, term_cmp, constant_of, polynomial_of, norm_of, total_degree, product_of}
+use Rattle.sparse_lists.specs.Coefficients.{coefficients}
+use Rattle.geo_poly.specs.Polynomials.{Summands, term_cmp, constant_of, polynomial_of, norm_of, total_degree, product_of}
 
 -- the bounds that a piece tells are such, and its count is at most its weight, as each monomial has a coefficient of at least 1
 pub record IsBounded (piece : Piece) : Type 0 where

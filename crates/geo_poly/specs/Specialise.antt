@@ -8,7 +8,8 @@ use Rattle.sparse_lists.specs.SparseLists.{AllKeys, IsCanonical}
 use Rattle.geo_poly.specs.declared.variables.Var.{Var}
 use Rattle.geo_poly.specs.Variables.{var_cmp}
 use Rattle.geo_poly.specs.Monomials.{Powers, IsMonomial, exponent}
-use Rattle.geo_poly.specs.Polynomials.{Summands, coefficients, norm_of, polynomial_of, term_cmp, total_degree}
+use Rattle.sparse_lists.specs.Coefficients.{coefficients}
+use Rattle.geo_poly.specs.Polynomials.{Summands, norm_of, polynomial_of, term_cmp, total_degree}
 use Rattle.geo_poly.specs.Values.{value}
 
 -- the powers of the other variables

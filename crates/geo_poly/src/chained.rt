@@ -9,7 +9,8 @@ ghost use Rattle.geo_poly.specs.Chained.{AddsChain, SameChains, StandsUnder, key
 ghost use Rattle.geo_poly.specs.Inner.Keyed.{AreInReach, IsIndexUnder, KeepsKeys, term_under};
 ghost use Rattle.geo_poly.specs.Inner.Keyed.{terms_under};
 ghost use Rattle.geo_poly.specs.Keys.{IsKeyUnder};
-ghost use Rattle.geo_poly.specs.Polynomials.{CanMultiply, coefficients, multiples, norm_of};
+ghost use Rattle.sparse_lists.specs.Coefficients.{coefficients};
+ghost use Rattle.geo_poly.specs.Polynomials.{CanMultiply, multiples, norm_of};
 ghost use Rattle.geo_poly.specs.Polynomials.{product_of, sum_of, term_cmp};
 ghost use Rattle.geo_poly.specs.Variables.{var_cmp};
 

@@ -5,7 +5,8 @@ ghost use Rattle.std.specs.declared.cmp.Ordering.TheVariants.{Less};
 ghost use Rattle.sparse_lists.specs.SparseLists.{AllKeys};
 ghost use Rattle.mono_store.specs.Monomials.{ComesFirst, degree_of, product};
 ghost use Rattle.poly_arena.specs.Chains.{IsLive, Merges, pairs_of};
-ghost use Rattle.poly_arena.specs.Orders.{IsFalling, SumsFit, sum_of};
+ghost use Rattle.sparse_lists.specs.Coefficients.{sum_of};
+ghost use Rattle.poly_arena.specs.Orders.{IsFalling, SumsFit};
 ghost use Rattle.geo_poly.specs.Keys.{Keys};
 ghost use Rattle.geo_poly.specs.Inner.Keyed.{AddsUp, IsAmount, IsInReach, KeepsKeys, key_cmp};
 

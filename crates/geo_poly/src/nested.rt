@@ -17,7 +17,8 @@ ghost use Rattle.geo_poly.specs.Inner.Settings.{IsSetUnder, IsStoredUnder, Swaps
 ghost use Rattle.geo_poly.specs.Inner.TermKeys.{AreTermKeys};
 ghost use Rattle.geo_poly.specs.Keys.{IsKeyUnder, Keys};
 ghost use Rattle.geo_poly.specs.Monomials.{IsMonomial};
-ghost use Rattle.geo_poly.specs.Polynomials.{CanMultiply, coefficients, norm_of, polynomial_of};
+ghost use Rattle.sparse_lists.specs.Coefficients.{coefficients};
+ghost use Rattle.geo_poly.specs.Polynomials.{CanMultiply, norm_of, polynomial_of};
 ghost use Rattle.geo_poly.specs.Polynomials.{product_of, term_cmp, total_degree};
 ghost use Rattle.geo_poly.specs.PolynomialVariables.{AllVariables};
 ghost use Rattle.geo_poly.specs.Replace.{CanReplace, others, replaced_terms};

@@ -4,7 +4,8 @@ ghost use Rattle.std.specs.Prelude.{◌≡◌, ◌≢◌, ◌↔◌, ◌+◌, �
 ghost use Rattle.std.specs.List.Sorted.{IsStrictlySortedBy};
 ghost use Rattle.sparse_lists.specs.SparseLists.{AllKeys, IsCanonical};
 ghost use Rattle.mono_store.specs.Stores.{Keeps};
-ghost use Rattle.geo_poly.specs.Polynomials.{IsPolynomial, coefficients, difference_of, negated};
+ghost use Rattle.sparse_lists.specs.Coefficients.{coefficients};
+ghost use Rattle.geo_poly.specs.Polynomials.{IsPolynomial, difference_of, negated};
 ghost use Rattle.geo_poly.specs.Polynomials.{norm_of, sum_of, term_cmp};
 ghost use Rattle.geo_poly.specs.PolynomialVariables.{AllVariables};
 ghost use Rattle.geo_poly.specs.Shared.{AreParts, IsIndex, terms_of, told};

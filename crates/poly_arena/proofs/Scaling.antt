@@ -7,7 +7,8 @@ use Rattle.std.proofs.lemmas.Option.{slice_get_within}
 use Rattle.poly_arena.specs.declared.nodes.Node.{Node}
 use Rattle.poly_arena.specs.declared.nodes.Slot.{Slot}
 use Rattle.poly_arena.specs.declared.nodes.Slot.TheVariants.{Live, Vacant}
-use Rattle.poly_arena.specs.Chains.{CanScale, Pairs, Updates, scaled}
+use Rattle.sparse_lists.specs.Coefficients.{Pairs, scaled}
+use Rattle.poly_arena.specs.Chains.{CanScale, Updates}
 use Rattle.poly_arena.specs.Nodes.{IsArena, IsPath, IsShared, chains_of, how_often, node_at, pair_at, pairs, places}
 use Rattle.poly_arena.specs.Inner.Changes.{AreOnce, ScalesNodes, scaled_node}
 use Rattle.poly_arena.proofs.Paths.{IsPath-agree, how_often-append, how_often-head, how_often-other, path-within, places-path, walk-length}

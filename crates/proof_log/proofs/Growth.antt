@@ -14,7 +14,8 @@ use Rattle.sparse_lists.specs.SparseLists.{AllKeys, Amounts, IsBefore, IsCanonic
 use Rattle.geo_poly.specs.declared.variables.Var.{Var}
 use Rattle.geo_poly.specs.Monomials.{Powers, IsEarlier, IsMonomial, degree_of, exponents}
 use Rattle.geo_poly.specs.Factors.{AreInOrder}
-use Rattle.geo_poly.specs.Polynomials.{Summands, coefficients, norm_of, term_cmp}
+use Rattle.sparse_lists.specs.Coefficients.{coefficients}
+use Rattle.geo_poly.specs.Polynomials.{Summands, norm_of, term_cmp}
 use Rattle.geo_poly.specs.Variables.{var_cmp}
 use Rattle.geo_poly.proofs.MonomialOrder.{IsEarlier-from_cmp, cmp_from_IsEarlier}
 use Rattle.geo_poly.proofs.Orders.{term_order, var_order}

@@ -3,3 +3,4 @@ pub mod Merging
 pub mod Sums
 pub mod Totals
 pub mod NaturalAmounts
+pub mod Coefficients

@@ -4,9 +4,8 @@ use Rattle.std.proofs.Common.{◌⊎◌, inl, inr, sym, ap, ◌∙◌, unsigned_
 use Rattle.std.specs.Ordering.{flip_args, nat_cmp}
 use Rattle.std.proofs.lemmas.List.{length-map}
 use Rattle.sparse_lists.proofs.Merging.{rest_left, rest_right}
-use Rattle.poly_arena.specs.Chains.{Pairs, scaled}
-use Rattle.poly_arena.specs.Orders.{coefficients}
-use Rattle.poly_arena.proofs.Ordered.{coefficients_add}
+use Rattle.sparse_lists.specs.Coefficients.{coefficients, Pairs, scaled}
+use Rattle.sparse_lists.proofs.Coefficients.{coefficients_add}
 use Rattle.term_runs.specs.Inner.{CountsAs, IsTurn}
 use Rattle.term_runs.specs.Runs.{IsRun, norm_of, run_of}
 use Rattle.term_runs.proofs.Order.{falling}

@@ -5,7 +5,7 @@ use Rattle.std.proofs.lemmas.Int.{ints}
 use Rattle.std.proofs.lemmas.List.Sums.{get_or-le-sum_by}
 use Rattle.sparse_lists.specs.SparseLists.{IsKeyOrder}
 use Rattle.sparse_lists.proofs.NaturalAmounts.{natural_order}
-use Rattle.poly_arena.specs.Chains.{Pairs}
+use Rattle.sparse_lists.specs.Coefficients.{Pairs}
 use Rattle.term_runs.specs.Runs.{norm_of}
 
 pub falling : IsKeyOrder (flip_args nat_cmp)

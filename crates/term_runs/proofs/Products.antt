@@ -8,9 +8,8 @@ use Rattle.std.proofs.lemmas.List.Sums.{sum_by-append, sum_by-cons}
 use Rattle.sparse_lists.specs.SparseLists.{AllKeys, IsBefore, amount}
 use Rattle.sparse_lists.proofs.Canonical.{IsCanonical-canonical, amount-append, canonical-canonical_left, canonical_comm, canonical_same, canonical_self}
 use Rattle.sparse_lists.proofs.Sums.{sum_by-canonical-le}
-use Rattle.poly_arena.specs.Chains.{Pairs, scaled}
-use Rattle.poly_arena.specs.Orders.{coefficients, sum_of}
-use Rattle.poly_arena.proofs.Ordered.{coefficients_add}
+use Rattle.sparse_lists.specs.Coefficients.{coefficients, Pairs, scaled, sum_of}
+use Rattle.sparse_lists.proofs.Coefficients.{coefficients_add}
 use Rattle.term_runs.specs.Runs.{IsRun, KeysFit, norm_of, products, run_of}
 use Rattle.term_runs.proofs.Order.{falling, unsigned_abs-add-le}
 use Rattle.term_runs.proofs.Parts.{parted_drop, parted_range, parted_take}

@@ -11,8 +11,7 @@ use Rattle.std.proofs.lemmas.List.{drop_more, get_or-map, length-map, map_push, 
 use Rattle.std.proofs.lemmas.List.Sums.{sum_by-cons}
 use Rattle.sparse_lists.specs.SparseLists.{AllKeys, IsBefore}
 use Rattle.sparse_lists.proofs.Sums.{AllKeys-at}
-use Rattle.poly_arena.specs.Chains.{Pairs, scaled}
-use Rattle.poly_arena.specs.Orders.{coefficients}
+use Rattle.sparse_lists.specs.Coefficients.{coefficients, Pairs, scaled}
 use Rattle.term_runs.specs.Runs.{IsRun, norm_of}
 use Rattle.term_runs.proofs.Order.{coefficient-le}
 use Rattle.term_runs.proofs.Turns.{nonzero, read_left}

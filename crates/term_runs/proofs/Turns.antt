@@ -9,9 +9,8 @@ use Rattle.std.proofs.lemmas.List.{append-nil, drop-drop, drop-map, drop-set-lt,
 use Rattle.std.proofs.lemmas.List.{map-append, map_push, take-set, take_more_set}
 use Rattle.sparse_lists.proofs.Merging.{IsCanonical-at, kept_cancel, kept_equal, kept_greater, kept_less, rest_left, rest_right}
 use Rattle.sparse_lists.proofs.NaturalAmounts.{natural_order}
-use Rattle.poly_arena.specs.Chains.{Pairs}
-use Rattle.poly_arena.specs.Orders.{coefficients}
-use Rattle.poly_arena.proofs.Ordered.{coefficients_add, zero_is}
+use Rattle.sparse_lists.specs.Coefficients.{coefficients, Pairs}
+use Rattle.sparse_lists.proofs.Coefficients.{coefficients_add, zero_is}
 use Rattle.term_runs.specs.Inner.{CountsAs, IsTurn}
 use Rattle.term_runs.specs.Runs.{IsRun, norm_of, run_of}
 use Rattle.term_runs.proofs.Order.{coefficient-le, falling, unsigned_abs-add-le}

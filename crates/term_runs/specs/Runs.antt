@@ -2,8 +2,7 @@
 use Rattle.std.specs.Prelude.{ℕ, ◌+◌, ◌<◌, List, [], ◌∷◌, ◌++◌, sum_by, unsigned_abs}
 use Rattle.std.specs.Ordering.{flip_args, nat_cmp}
 use Rattle.sparse_lists.specs.SparseLists.{AllKeys, IsCanonical, canonical}
-use Rattle.poly_arena.specs.Chains.{Pairs, scaled}
-use Rattle.poly_arena.specs.Orders.{coefficients}
+use Rattle.sparse_lists.specs.Coefficients.{coefficients, Pairs, scaled}
 
 -- the keys fall, and no coefficient is 0
 abbrev pub IsRun : Pairs → Type 0

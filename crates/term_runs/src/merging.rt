@@ -3,7 +3,7 @@
 ghost use Rattle.std.specs.Prelude.{◌≡◌, ◌+◌, ◌<◌, ◌≤◌, ◌^◌, ◌++◌, drop, length, map, take};
 ghost use Rattle.std.specs.Prelude.{unsigned_abs};
 ghost use Rattle.std.specs.Ordering.{nat_cmp};
-ghost use Rattle.poly_arena.specs.Orders.{sum_of};
+ghost use Rattle.sparse_lists.specs.Coefficients.{sum_of};
 ghost use Rattle.term_runs.specs.Inner.{CountsAs, IsTurn};
 ghost use Rattle.term_runs.specs.Runs.{IsRun, norm_of};
 

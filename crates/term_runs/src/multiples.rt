@@ -3,7 +3,7 @@
 ghost use Rattle.std.specs.Prelude.{◌≡◌, ◌≢◌, ◌+◌, ◌*◌, ◌<◌, ◌≤◌, ◌^◌, ◌++◌, drop, length, map, pos, take};
 ghost use Rattle.std.specs.Prelude.{unsigned_abs};
 ghost use Rattle.sparse_lists.specs.SparseLists.{AllKeys};
-ghost use Rattle.poly_arena.specs.Chains.{scaled};
+ghost use Rattle.sparse_lists.specs.Coefficients.{scaled};
 ghost use Rattle.term_runs.specs.Runs.{IsRun, norm_of, run_of};
 
 use crate::merging::{count_of, next_turn};

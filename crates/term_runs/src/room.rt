@@ -3,8 +3,7 @@
 ghost use Rattle.std.specs.Prelude.{◌≡◌, ◌≢◌, ◌+◌, ◌*◌, ◌<◌, ◌≤◌, ◌^◌, ◌++◌, ℕ, IfOk, OnErr, OnOk};
 ghost use Rattle.std.specs.Prelude.{drop, length, map, pos, slice_range, take, unsigned_abs};
 ghost use Rattle.std.specs.Ordering.{nat_cmp};
-ghost use Rattle.poly_arena.specs.Chains.{scaled};
-ghost use Rattle.poly_arena.specs.Orders.{sum_of};
+ghost use Rattle.sparse_lists.specs.Coefficients.{scaled, sum_of};
 ghost use Rattle.sparse_lists.specs.SparseLists.{AllKeys};
 ghost use Rattle.term_runs.specs.Runs.{IsRun, norm_of, run_of};
 

@@ -19,7 +19,7 @@ pub struct Runs<T: Term> {
 
 impl<T: Term> Model for Runs<T> {
     ghost use Rattle.std.specs.Prelude.{◌≤◌, ◌^◌, length, map, take};
-    ghost use Rattle.poly_arena.specs.Chains.{Pairs};
+    ghost use Rattle.sparse_lists.specs.Coefficients.{Pairs};
 
     ghost Value = { Pairs };
 
@@ -32,9 +32,8 @@ impl<T: Term> Runs<T> {
     ghost use Rattle.std.specs.Prelude.{◌≡◌, ◌≢◌, ◌+◌, ◌*◌, ◌<◌, ◌≤◌, ◌++◌, ◌∷◌, [], OnErr, OnOk};
     ghost use Rattle.std.specs.Prelude.{drop, length, map, pos, slice_range, take, unsigned_abs};
     ghost use Rattle.std.specs.Ordering.{nat_cmp};
+    ghost use Rattle.sparse_lists.specs.Coefficients.{scaled, sum_of};
     ghost use Rattle.sparse_lists.specs.SparseLists.{AllKeys};
-    ghost use Rattle.poly_arena.specs.Chains.{scaled};
-    ghost use Rattle.poly_arena.specs.Orders.{sum_of};
     ghost use Rattle.term_runs.specs.Runs.{IsRun, KeysFit, norm_of, products, run_of};
 
     /// No terms.

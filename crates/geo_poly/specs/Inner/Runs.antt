@@ -1,7 +1,7 @@
 -- Terms with no factors left, in the order of what is left of their monomials.
 use Rattle.std.specs.Prelude.{◌≡◌, ℕ, Option, Some, None, IfSome, [], ◌∷◌, drop}
 use Rattle.std.specs.declared.cmp.Ordering.TheVariants.{Less}
-use Rattle.poly_arena.specs.Chains.{Pairs}
+use Rattle.sparse_lists.specs.Coefficients.{Pairs}
 use Rattle.geo_poly.specs.declared.pending.Pending.{Pending}
 use Rattle.geo_poly.specs.declared.settings.Setting.{Setting}
 use Rattle.geo_poly.specs.declared.shared.Shared.{Shared}

@@ -3,8 +3,7 @@ use Rattle.std.specs.Prelude.{◌≡◌, ℕ, zero, suc, ◌+◌, ◌<◌, ℤ, 
 use Rattle.std.specs.Ordering.{flip_args, nat_cmp}
 use Rattle.sparse_lists.specs.SparseLists.{amount, put}
 use Rattle.mono_store.specs.declared.links.MonoId.{MonoId}
-use Rattle.poly_arena.specs.Chains.{Pairs}
-use Rattle.geo_poly.specs.Polynomials.{coefficients}
+use Rattle.sparse_lists.specs.Coefficients.{coefficients, Pairs}
 use Rattle.geo_poly.specs.Shared.{Indices}
 
 -- each term of the list times the term t: the words add up

@@ -1,4 +1,5 @@
-use Rattle.geo_points.proofs.Coordinates.{turned-x, turned-y, turned_back}
+use Rattle.geo_points.proofs.Coordinates.{turned_back}
+use Rattle.geo_points.proofs.Lines.{turned-x, turned-y}
 use Rattle.geo_points.proofs.Making.{turned_exists, turned_unique}
 use Rattle.geo_points.proofs.laws.turned_makes_one_point.Goals as goal
 

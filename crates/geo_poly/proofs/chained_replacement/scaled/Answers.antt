@@ -1,7 +1,8 @@
 use Rattle.std.proofs.Common.{◌≡◌, ℤ, Some, ◌∙◌, ap, of_z, rules, subst, sym, to_z}
 use Rattle.std.specs.Int.{w128}
 use Rattle.std.proofs.lemmas.Int.{to_z-of_z}
-use Rattle.poly_arena.specs.Chains.{CanScale, pairs_of, scaled}
+use Rattle.sparse_lists.specs.Coefficients.{scaled}
+use Rattle.poly_arena.specs.Chains.{CanScale, pairs_of}
 use Rattle.geo_poly.proofs.ChainSteps.{StandsUnder-list}
 use Rattle.geo_poly.proofs.ChainSwaps.{Swaps-updates}
 use Rattle.geo_poly.proofs.ScaledChains.{scale_fits, scale_keys, scale_terms}

@@ -1,7 +1,8 @@
 use Rattle.std.proofs.Common.{sym, ◌∙◌}
-use Rattle.geo_poly.specs.Polynomials.{coefficients, term_cmp, polynomial_of}
+use Rattle.sparse_lists.specs.Coefficients.{coefficients}
+use Rattle.geo_poly.specs.Polynomials.{term_cmp, polynomial_of}
 use Rattle.geo_poly.proofs.Orders.{term_order}
-use Rattle.geo_poly.proofs.PolynomialLaws.{coefficients_add}
+use Rattle.sparse_lists.proofs.Coefficients.{coefficients_add}
 use Rattle.sparse_lists.proofs.Canonical.{IsCanonical-canonical, amount-canonical, same_list}
 use Rattle.geo_poly.proofs.laws.polynomial_has_coefficients.Goals as goal
 

@@ -1,7 +1,8 @@
 use Rattle.std.proofs.Common.{◌++◌, ◌∙◌}
-use Rattle.geo_poly.specs.Polynomials.{coefficients, term_cmp}
+use Rattle.sparse_lists.specs.Coefficients.{coefficients}
+use Rattle.geo_poly.specs.Polynomials.{term_cmp}
 use Rattle.geo_poly.proofs.Orders.{term_order}
-use Rattle.geo_poly.proofs.PolynomialLaws.{coefficients_add}
+use Rattle.sparse_lists.proofs.Coefficients.{coefficients_add}
 use Rattle.sparse_lists.proofs.Canonical.{amount-canonical, amount-append}
 use Rattle.geo_poly.proofs.laws.sum_adds_coefficients.Goals as goal
 

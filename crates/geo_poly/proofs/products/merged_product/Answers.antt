@@ -1,6 +1,7 @@
 use Rattle.std.proofs.Common.{map, ap, ◌∙◌}
 use Rattle.std.proofs.lemmas.Result.{IfOk-weaker}
-use Rattle.poly_arena.specs.Chains.{Pairs, pairs_of}
+use Rattle.sparse_lists.specs.Coefficients.{Pairs}
+use Rattle.poly_arena.specs.Chains.{pairs_of}
 use Rattle.geo_poly.specs.Chained.{indexed_pair}
 use Rattle.geo_poly.proofs.KeyedChains.{chain_indices, chain_terms}
 use Rattle.geo_poly.proofs.products.merged_product.Goals as goal

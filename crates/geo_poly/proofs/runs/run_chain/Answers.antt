@@ -4,12 +4,13 @@ use Rattle.std.specs.Prelude.{slice_index_or, unwrap_or}
 use Rattle.std.proofs.lemmas.Int.{to_z-of_z}
 use Rattle.sparse_lists.specs.SparseLists.{IsCanonical}
 use Rattle.sparse_lists.proofs.Merging.{drop_past}
-use Rattle.poly_arena.specs.Chains.{Pairs, pairs_of}
+use Rattle.sparse_lists.specs.Coefficients.{coefficients, Pairs}
+use Rattle.poly_arena.specs.Chains.{pairs_of}
 use Rattle.geo_poly.specs.Chained.{AddsChain, StandsUnder}
 use Rattle.geo_poly.specs.declared.pending.Pending.{Pending}
 use Rattle.geo_poly.specs.Inner.Factored.{factored_terms, told_pending}
 use Rattle.geo_poly.specs.Inner.Runs.{IsNextKey, first_key}
-use Rattle.geo_poly.specs.Polynomials.{Summands, coefficients, term_cmp}
+use Rattle.geo_poly.specs.Polynomials.{Summands, term_cmp}
 use Rattle.geo_poly.specs.Shared.{told}
 use Rattle.geo_poly.proofs.AddedKeys.{AreTermKeys-kept}
 use Rattle.geo_poly.proofs.ChainSteps.{AddsChain-updates, StandsUnder-list, gave_back}

@@ -5,7 +5,8 @@ use Rattle.geo_poly.specs.Chained.{AddsChain, StandsUnder}
 use Rattle.geo_poly.specs.Inner.Factored.{factored_terms, told_pending}
 use Rattle.geo_poly.specs.Inner.Keyed.{KeepsKeys}
 use Rattle.geo_poly.specs.Inner.Runs.{first_key}
-use Rattle.geo_poly.specs.Polynomials.{coefficients, term_cmp}
+use Rattle.sparse_lists.specs.Coefficients.{coefficients}
+use Rattle.geo_poly.specs.Polynomials.{term_cmp}
 use Rattle.geo_poly.proofs.runs.run_chain.Given as goal
 
 abbrev pub invariant-loop-i : goal.invariant-loop-i

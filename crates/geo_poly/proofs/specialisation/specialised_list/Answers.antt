@@ -7,7 +7,8 @@ use Rattle.sparse_lists.specs.SparseLists.{AllKeys, IsCanonical}
 use Rattle.mono_store.specs.Stores.{Store}
 use Rattle.geo_poly.specs.Inner.Parts.{has, lacks}
 use Rattle.geo_poly.specs.Monomials.{Powers, IsMonomial}
-use Rattle.geo_poly.specs.Polynomials.{Summands, coefficients, norm_of, sum_of, term_cmp}
+use Rattle.sparse_lists.specs.Coefficients.{coefficients}
+use Rattle.geo_poly.specs.Polynomials.{Summands, norm_of, sum_of, term_cmp}
 use Rattle.geo_poly.specs.PolynomialVariables.{AllVariables}
 use Rattle.geo_poly.specs.Shared.{IsIndex, terms_of, told}
 use Rattle.geo_poly.specs.Specialise.{specialised, specialised_weight}

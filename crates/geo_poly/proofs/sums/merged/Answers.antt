@@ -1,8 +1,10 @@
 use Rattle.std.proofs.Common.{◌≡◌, ◌++◌, drop, sym, ◌∙◌, append_assoc, arith}
 use Rattle.sparse_lists.specs.SparseLists.{canonical}
-use Rattle.geo_poly.specs.Polynomials.{term_cmp, coefficients, sum_of}
+use Rattle.sparse_lists.specs.Coefficients.{coefficients}
+use Rattle.geo_poly.specs.Polynomials.{term_cmp, sum_of}
 use Rattle.geo_poly.proofs.Orders.{term_order}
-use Rattle.geo_poly.proofs.PolynomialLaws.{coefficients_add, FitsSum, fits_at, sum_is, sum_nonzero, sum_zero}
+use Rattle.sparse_lists.proofs.Coefficients.{coefficients_add}
+use Rattle.geo_poly.proofs.PolynomialLaws.{FitsSum, fits_at, sum_is, sum_nonzero, sum_zero}
 use Rattle.sparse_lists.proofs.Merging.{take_rest, kept_less, kept_greater, kept_equal, kept_cancel, rest_left, rest_right}
 use Rattle.geo_poly.proofs.sums.merged.Goals as goal
 use Rattle.geo_poly.proofs.sums.merged.Goals.{then-loop-i-test+else-j-right, else-loop-i-test, then-sum-ne0+in_ok-copy-in-Equal+in_ok-push-in-Equal, else-sum-ne0}

@@ -1,6 +1,7 @@
 use Rattle.std.proofs.Common.{◌≡◌, ◌+◌, ◌-◌, ◌≤◌, ◌++◌, drop, length}
 use Rattle.sparse_lists.specs.SparseLists.{canonical}
-use Rattle.geo_poly.specs.Polynomials.{term_cmp, coefficients, sum_of}
+use Rattle.sparse_lists.specs.Coefficients.{coefficients}
+use Rattle.geo_poly.specs.Polynomials.{term_cmp, sum_of}
 use Rattle.geo_poly.proofs.sums.merged.Given as goal
 
 abbrev pub invariant-loop-i : goal.invariant-loop-i

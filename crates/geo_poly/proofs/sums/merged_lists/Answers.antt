@@ -3,11 +3,13 @@ use Rattle.std.specs.Int.{w128}
 use Rattle.sparse_lists.specs.SparseLists.{canonical}
 use Rattle.sparse_lists.proofs.Merging.{take_rest, rest_left, rest_right}
 use Rattle.sparse_lists.proofs.Sums.{AllKeys-append}
-use Rattle.geo_poly.specs.Polynomials.{term_cmp, coefficients}
+use Rattle.sparse_lists.specs.Coefficients.{coefficients}
+use Rattle.geo_poly.specs.Polynomials.{term_cmp}
 use Rattle.geo_poly.specs.Shared.{IsIndex, terms_of}
 use Rattle.geo_poly.proofs.IndexSums.{AllKeys-drop, ends, fitting, goes_cancel, goes_equal, goes_greater, goes_less, list_index}
 use Rattle.geo_poly.proofs.Orders.{term_order}
-use Rattle.geo_poly.proofs.PolynomialLaws.{coefficients_add, coded_sum_is, sum_is, sum_nonzero, sum_zero}
+use Rattle.sparse_lists.proofs.Coefficients.{coefficients_add}
+use Rattle.geo_poly.proofs.PolynomialLaws.{coded_sum_is, sum_is, sum_nonzero, sum_zero}
 use Rattle.geo_poly.proofs.Told.{item, length-terms_of}
 use Rattle.geo_poly.proofs.sums.merged_lists.Goals as goal
 use Rattle.geo_poly.proofs.sums.merged_lists.Goals.{then-loop-i-test+else-j-right, else-loop-i-test, then-sum-ne0+in_ok-push-in-Equal, else-sum-ne0}

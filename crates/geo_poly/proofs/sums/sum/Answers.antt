@@ -3,10 +3,12 @@ use Rattle.std.proofs.lemmas.Result.{IfOk-weaker}
 use Rattle.sparse_lists.specs.SparseLists.{AllKeys}
 use Rattle.sparse_lists.proofs.Canonical.{canonical_comm}
 use Rattle.geo_poly.specs.declared.variables.Var.{Var}
-use Rattle.geo_poly.specs.Polynomials.{IsPolynomial, coefficients, sum_of, term_cmp}
+use Rattle.sparse_lists.specs.Coefficients.{coefficients}
+use Rattle.geo_poly.specs.Polynomials.{IsPolynomial, sum_of, term_cmp}
 use Rattle.geo_poly.specs.Shared.{IsIndex, terms_of, told}
 use Rattle.geo_poly.proofs.Orders.{term_order}
-use Rattle.geo_poly.proofs.PolynomialLaws.{IsPolynomial-sum_of, coefficients_add}
+use Rattle.sparse_lists.proofs.Coefficients.{coefficients_add}
+use Rattle.geo_poly.proofs.PolynomialLaws.{IsPolynomial-sum_of}
 use Rattle.geo_poly.proofs.Unions.{AllVariables-longer, parts_known}
 use Rattle.geo_poly.proofs.sums.sum.Goals as goal
 

@@ -3,7 +3,8 @@ use Rattle.std.proofs.lemmas.Result.{IfOk-weaker}
 use Rattle.std.specs.List.Sorted.{IsStrictlySortedBy}
 use Rattle.sparse_lists.specs.SparseLists.{AllKeys, IsCanonical}
 use Rattle.geo_poly.specs.declared.variables.Var.{Var}
-use Rattle.geo_poly.specs.Polynomials.{IsPolynomial, Summands, coefficients, norm_of, sum_of, term_cmp}
+use Rattle.sparse_lists.specs.Coefficients.{coefficients}
+use Rattle.geo_poly.specs.Polynomials.{IsPolynomial, Summands, norm_of, sum_of, term_cmp}
 use Rattle.geo_poly.specs.Shared.{IsIndex, terms_of, told}
 use Rattle.geo_poly.specs.Variables.{var_cmp}
 use Rattle.geo_poly.proofs.PolynomialLaws.{IsPolynomial-sum_of}

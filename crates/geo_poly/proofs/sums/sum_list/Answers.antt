@@ -1,7 +1,8 @@
 use Rattle.std.proofs.Common.{sym, ap, ap₂, subst, ◌∙◌, arith}
 use Rattle.std.proofs.lemmas.Result.{IfOk-weaker}
 use Rattle.sparse_lists.specs.SparseLists.{IsCanonical}
-use Rattle.geo_poly.specs.Polynomials.{coefficients, sum_of, norm_of, term_cmp}
+use Rattle.sparse_lists.specs.Coefficients.{coefficients}
+use Rattle.geo_poly.specs.Polynomials.{sum_of, norm_of, term_cmp}
 use Rattle.geo_poly.specs.Shared.{terms_of, told}
 use Rattle.geo_poly.proofs.IndexSums.{in_grown}
 use Rattle.geo_poly.proofs.Told.{indices-kept}

@@ -1,7 +1,7 @@
 use Rattle.std.proofs.Common.{◌≡◌, ◌+◌, ◌<◌, ◌≤◌, ◌++◌, drop, length, take, map, ap, ◌∙◌, arith}
 use Rattle.std.specs.Ordering.{nat_cmp}
 use Rattle.std.proofs.lemmas.List.{take_rest}
-use Rattle.poly_arena.specs.Orders.{sum_of}
+use Rattle.sparse_lists.specs.Coefficients.{sum_of}
 use Rattle.term_runs.proofs.Turns.{left_rest, right_rest, room_fits, room_steps, room_turned, room_unread}
 use Rattle.term_runs.proofs.merging.merge.Goals as goal
 use Rattle.term_runs.proofs.merging.merge.Goals.{then-loop-i-test+else-j-count, else-loop-i-test}

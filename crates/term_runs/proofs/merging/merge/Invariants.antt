@@ -1,6 +1,6 @@
 use Rattle.std.proofs.Common.{◌≡◌, ◌+◌, ◌-◌, ◌≤◌, ◌++◌, drop, length, map, take}
 use Rattle.std.specs.Ordering.{nat_cmp}
-use Rattle.poly_arena.specs.Orders.{sum_of}
+use Rattle.sparse_lists.specs.Coefficients.{sum_of}
 use Rattle.term_runs.specs.Runs.{run_of}
 use Rattle.term_runs.proofs.merging.merge.Given as goal
 

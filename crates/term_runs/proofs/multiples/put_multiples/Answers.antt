@@ -1,6 +1,6 @@
 use Rattle.std.proofs.Common.{◌≡◌, ◌+◌, ◌<◌, ◌≤◌, ◌++◌, drop, length, take, map, arith}
 use Rattle.std.proofs.lemmas.List.{length-map}
-use Rattle.poly_arena.specs.Chains.{scaled}
+use Rattle.sparse_lists.specs.Coefficients.{scaled}
 use Rattle.term_runs.proofs.Scaled.{key_fits, multiple_fits, multiple_more}
 use Rattle.term_runs.proofs.Turns.{read_left}
 use Rattle.term_runs.proofs.multiples.put_multiples.Goals as goal

@@ -1,6 +1,6 @@
 use Rattle.std.proofs.Common.{◌≡◌, ◌+◌, ◌*◌, ◌<◌, ◌≤◌, ◌++◌, ◌⊎◌, inl, inr, drop, length, take, map, ap, ◌∙◌, unsigned_abs, arith}
 use Rattle.std.proofs.lemmas.List.{length-map}
-use Rattle.poly_arena.specs.Chains.{scaled}
+use Rattle.sparse_lists.specs.Coefficients.{scaled}
 use Rattle.term_runs.specs.Runs.{norm_of, run_of}
 use Rattle.term_runs.proofs.Doubled.{first_within, second_within, two_fit, two_rest, two_steps, two_turned}
 use Rattle.term_runs.proofs.Scaled.{key_fits, multiple_fits}

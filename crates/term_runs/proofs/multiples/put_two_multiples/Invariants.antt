@@ -1,5 +1,5 @@
 use Rattle.std.proofs.Common.{◌≡◌, ◌+◌, ◌-◌, ◌≤◌, ◌++◌, drop, length, map, take}
-use Rattle.poly_arena.specs.Chains.{scaled}
+use Rattle.sparse_lists.specs.Coefficients.{scaled}
 use Rattle.term_runs.specs.Runs.{run_of}
 use Rattle.term_runs.proofs.multiples.put_two_multiples.Given as goal
 

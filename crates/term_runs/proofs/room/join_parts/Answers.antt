@@ -2,7 +2,7 @@ use Rattle.std.proofs.Common.{◌≡◌, ◌+◌, ◌-◌, ◌<◌, ◌≤◌, �
 use Rattle.std.specs.Ordering.{nat_cmp}
 use Rattle.std.specs.Prelude.{slice_range}
 use Rattle.std.proofs.lemmas.List.{length-drop, length-take-le, take-append-le, take-take}
-use Rattle.poly_arena.specs.Orders.{sum_of}
+use Rattle.sparse_lists.specs.Coefficients.{sum_of}
 use Rattle.term_runs.specs.Runs.{IsRun, norm_of}
 use Rattle.term_runs.proofs.Parts.{range_rest}
 use Rattle.term_runs.proofs.room.join_parts.Goals as goal

@@ -1,6 +1,7 @@
 use Rattle.std.proofs.Common.{◌≡◌, map, sym, ap, subst, ◌∙◌}
 use Rattle.std.specs.Prelude.{IfOk}
-use Rattle.poly_arena.specs.Chains.{Pairs, pairs_of}
+use Rattle.sparse_lists.specs.Coefficients.{Pairs}
+use Rattle.poly_arena.specs.Chains.{pairs_of}
 use Rattle.geo_poly.specs.Chained.{indexed_pair}
 use Rattle.geo_poly.specs.Polynomials.{IsPolynomial, Summands}
 use Rattle.geo_poly.specs.Keys.{store_keys}

@@ -1,5 +1,6 @@
 use Rattle.std.proofs.Common.{subst}
-use Rattle.poly_arena.specs.Chains.{Merges, Pairs, pairs_of}
+use Rattle.sparse_lists.specs.Coefficients.{Pairs}
+use Rattle.poly_arena.specs.Chains.{Merges, pairs_of}
 use Rattle.geo_poly.proofs.WordInstance.{words-below, words-fall, words-sum}
 use Rattle.geo_poly.proofs.word_keys.DigitsMonomialKeys.merge.Goals as goal
 

@@ -3,7 +3,8 @@ use Rattle.std.specs.Int.{w128}
 use Rattle.std.proofs.lemmas.Int.{to_z-of_z}
 use Rattle.poly_arena.specs.declared.nodes.Slot.{Slot}
 use Rattle.poly_arena.specs.declared.nodes.Slot.TheVariants.{Live}
-use Rattle.poly_arena.specs.Chains.{CanScale, IsLive, Pairs, Updates, pairs_of, scaled}
+use Rattle.sparse_lists.specs.Coefficients.{Pairs, scaled}
+use Rattle.poly_arena.specs.Chains.{CanScale, IsLive, Updates, pairs_of}
 use Rattle.poly_arena.specs.Nodes.{chains_of, pairs, places}
 use Rattle.poly_arena.specs.Inner.Changes.{IsLiveSlot}
 use Rattle.poly_arena.proofs.Scaling.{IsArena-scaled, Updates-scaled, chain-once}

@@ -5,7 +5,8 @@ use Rattle.std.proofs.lemmas.Int.{to_z-of_z}
 use Rattle.poly_arena.specs.declared.nodes.Node.{Node}
 use Rattle.poly_arena.specs.declared.nodes.Slot.{Slot}
 use Rattle.poly_arena.specs.declared.nodes.Slot.TheVariants.{Live}
-use Rattle.poly_arena.specs.Chains.{IsLive, Pairs, pairs_of}
+use Rattle.sparse_lists.specs.Coefficients.{Pairs}
+use Rattle.poly_arena.specs.Chains.{IsLive, pairs_of}
 use Rattle.poly_arena.specs.Nodes.{chains_of, places}
 use Rattle.poly_arena.specs.Inner.Changes.{IsLiveSlot}
 use Rattle.poly_arena.proofs.Updating.{ReadsBy, live_slot, pairs_at, reads_by-end, reads_by-smaller, reads_by-start, reads_by-turn, reads_by-within}
