@@ -3,7 +3,7 @@ use Rattle.std.proofs.Common.{◌≡◌, zero, suc, ℤ, pos, negsuc, ◌+ℤ◌
 use Rattle.ring_laws.specs.Solver.{variable, numeral, ◌⊞◌, ◌⊟◌, ◌⊠◌, opposite, entry_at, given}
 use Rattle.ring_laws.proofs.Combination.{by_combination}
 use Rattle.ring_laws.proofs.Integers.{integers}
-use Rattle.ring_laws.specs.Fraction.{Same, whole, plus, minus, times, negated, IsNonzero}
+use Rattle.ring_laws.specs.Fraction.{whole, plus, minus, times, negated, IsNonzero}
 use Rattle.geo_points.specs.Points.{Point, signed_area, pythagoras_difference, x_coordinate, y_coordinate, x_difference, y_difference, cross_product}
 use Rattle.geo_points.specs.Steps.{IsCrossing}
 use Rattle.geo_points.proofs.AreaRows.{cross', two_halves}

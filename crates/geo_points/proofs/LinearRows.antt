@@ -1,7 +1,7 @@
 -- The rows of areas and of Pythagoras differences that are linear in the point, from the steps on triples.
 use Rattle.std.proofs.Common.{ℕ, pos, [], ◌∷◌}
 use Rattle.ring_laws.specs.Fraction.{Fraction, Same, whole, plus, minus, times}
-use Rattle.geo_points.specs.Points.{Point, signed_area, pythagoras_difference, x_coordinate, y_coordinate}
+use Rattle.geo_points.specs.Points.{Point, signed_area, pythagoras_difference}
 use Rattle.geo_points.specs.Steps.{IsCrossing, IsAlong, IsFoot, IsTurned}
 use Rattle.geo_points.proofs.AreaRows.{cross', two_halves}
 use Rattle.geo_points.proofs.Expressions.{Quantity, abscissa, ordinate, area, pythagoras, whole_number, one_half, given_number, ◌+'◌, ◌-'◌, ◌*'◌, opposite', fact}

@@ -1,5 +1,5 @@
 -- Lines that meet at a point and lines at a right angle, as equations of fractions; and back.
-use Rattle.std.proofs.Common.{◌≡◌, ℤ, pos, ◌*ℤ◌, ◌*◌, mul-pos, [], ◌∷◌}
+use Rattle.std.proofs.Common.{◌≡◌, pos, ◌*◌, mul-pos, [], ◌∷◌}
 use Rattle.ring_laws.specs.Solver.{Expression, variable, numeral, ◌⊞◌, ◌⊟◌, ◌⊠◌, opposite, entry_at, given, Quotient, as_quotient}
 use Rattle.ring_laws.proofs.Integers.{integers}
 use Rattle.ring_laws.proofs.Combination.{by_combination}

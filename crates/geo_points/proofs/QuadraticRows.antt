@@ -1,5 +1,5 @@
 -- The rows of Pythagoras differences with the point in the middle.
-use Rattle.std.proofs.Common.{ℕ, pos, [], ◌∷◌}
+use Rattle.std.proofs.Common.{pos, [], ◌∷◌}
 use Rattle.ring_laws.specs.Fraction.{Fraction, Same, whole, plus, minus, times}
 use Rattle.geo_points.specs.Points.{Point, signed_area, pythagoras_difference, x_coordinate, y_coordinate}
 use Rattle.geo_points.specs.Steps.{IsCrossing, IsAlong, IsFoot, IsTurned}

@@ -1,5 +1,5 @@
 -- The rows of ratios.
-use Rattle.std.proofs.Common.{◌≡◌, Bool, true, false, ℤ, pos, [], ◌∷◌, refl}
+use Rattle.std.proofs.Common.{◌≡◌, Bool, true, false, pos, [], ◌∷◌, refl}
 use Rattle.ring_laws.specs.Fraction.{Fraction, Same, whole, plus, minus, times, negated}
 use Rattle.geo_points.specs.Points.{Point, signed_area, pythagoras_difference, x_coordinate, y_coordinate, x_difference, y_difference, cross_product, ratio, HasRatio, is_null}
 use Rattle.geo_points.specs.Steps.{IsCrossing, IsAlong, IsFoot}

@@ -1,12 +1,10 @@
 -- Ratios.
-use native.Mathlib.Nat as NatL
-use borrow.Author.Differences.{up, down, same_in, product_is}
-use Rattle.std.proofs.Common.{◌≡◌, ℕ, zero, suc, Bool, true, false, ◌+◌, ◌*◌, ◌<◌, ℤ, pos, negsuc, ◌+ℤ◌, ◌*ℤ◌, neg_ℤ, nat_abs, refl, sym, ◌∙◌, ap, arith, [], ◌∷◌, zero-lt-suc, mul-pos}
+use Rattle.std.proofs.Common.{◌≡◌, zero, suc, Bool, true, false, ◌*◌, ℤ, pos, negsuc, refl, sym, ◌∙◌, ap, [], ◌∷◌}
 use Rattle.ring_laws.specs.Solver.{variable, numeral, ◌⊞◌, ◌⊟◌, ◌⊠◌, opposite, entry_at, given}
 use Rattle.ring_laws.specs.Fraction.{Fraction, Same, whole, minus, times, IsNonzero, quotient, quotient_at, plus, negated}
 use Rattle.geo_points.specs.Points.{Point, x_coordinate, y_coordinate, x_difference, y_difference, cross_product, x_component, y_component, is_null, ratio, HasRatio}
 use Rattle.ring_laws.proofs.Integers.{integers}
-use Rattle.ring_laws.proofs.Fractions.{fractions, cancel}
+use Rattle.ring_laws.proofs.Fractions.{fractions}
 use Rattle.ring_laws.proofs.Sound.{agree}
 use Rattle.ring_laws.proofs.Combination.{by_combination}
 use Rattle.ring_laws.proofs.Quotients.{cancel_fraction, quotient-times}

@@ -1,12 +1,12 @@
 -- A step by weights in coordinates; it makes a point, and no other.
-use Rattle.std.proofs.Common.{ℕ, ◌*◌, ℤ, pos, ◌+ℤ◌, ◌*ℤ◌, [], ◌∷◌, mul-pos}
+use Rattle.std.proofs.Common.{ℕ, ◌*◌, ℤ, pos, [], ◌∷◌, mul-pos}
 use Rattle.ring_laws.specs.Solver.{Expression, variable, numeral, ◌⊞◌, ◌⊟◌, ◌⊠◌, entry_at, given, Quotient, as_quotient, quotient_at}
 use Rattle.ring_laws.specs.Fraction.{Fraction, Same, whole, plus, negated, minus, times}
 use Rattle.ring_laws.proofs.Combination.{by_combination}
 use Rattle.ring_laws.proofs.Fractions.{cancel}
 use Rattle.ring_laws.proofs.Integers.{integers}
 use Rattle.geo_points.specs.Placements.{SamePoint}
-use Rattle.geo_points.specs.Points.{Point, x_coordinate, y_coordinate, x_difference, y_difference}
+use Rattle.geo_points.specs.Points.{Point, x_coordinate, y_coordinate}
 use Rattle.geo_points.specs.Steps.{IsWeighted}
 use Rattle.geo_points.specs.Vectors.{run, rise}
 use Rattle.geo_points.proofs.Expressions.{Quantity, abscissa, ordinate, whole_number, given_number, ◌+'◌, ◌-'◌, ◌*'◌, opposite', fact}

@@ -1,6 +1,6 @@
 -- The laws that stand on the functions of `laws`.
 use Rattle.std.specs.Prelude.{◌≡◌, pos, ◌↔◌}
-use Rattle.ring_laws.specs.Fraction.{Fraction, Same, whole, plus, negated, minus, times, IsNonzero, quotient}
+use Rattle.ring_laws.specs.Fraction.{Fraction, Same, whole, plus, negated, minus, times}
 use Rattle.geo_points.specs.Points.{Point, squared_distance, x_coordinate, y_coordinate, cross_product, signed_area, pythagoras_difference, HasRatio, ratio}
 use Rattle.geo_points.specs.Placements.{SamePoint}
 use Rattle.geo_points.specs.Steps.{IsAlong, IsCrossing, IsFoot, IsTurned, IsWeighted}

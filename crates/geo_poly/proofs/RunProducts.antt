@@ -1,8 +1,7 @@
 -- Products of lists of words as products of runs.
-use Rattle.std.proofs.Common.{◌≡◌, ℕ, ◌+◌, ◌*◌, ◌<◌, ◌≤◌, ◌^◌, ℤ, ◌*ℤ◌, List, [], ◌∷◌, ◌++◌, map, refl, sym, ap, ap₂, subst, ◌∙◌, unsigned_abs, arith}
+use Rattle.std.proofs.Common.{◌≡◌, ℕ, ◌+◌, ◌*◌, ◌<◌, ◌≤◌, ℤ, ◌*ℤ◌, List, [], ◌∷◌, ◌++◌, map, refl, sym, ap, ap₂, subst, ◌∙◌, unsigned_abs, arith}
 use Rattle.std.specs.List.Sorted.{IsStrictlySortedBy}
 use Rattle.std.specs.Ordering.{flip_args, nat_cmp}
-use Rattle.std.specs.declared.cmp.Ordering.TheVariants.{Less}
 use Rattle.std.proofs.lemmas.List.Sums.{sum_by-cons}
 use Rattle.sparse_lists.specs.SparseLists.{AllKeys, IsBefore, IsCanonical}
 use Rattle.sparse_lists.proofs.Sums.{AllKeys-canonical}
@@ -17,7 +16,7 @@ use Rattle.geo_poly.specs.Inner.Words.{word_keys}
 use Rattle.geo_poly.specs.Inner.WordSums.{word_multiples, word_products}
 use Rattle.geo_poly.specs.Keys.{IsKeyUnder, Keys}
 use Rattle.geo_poly.specs.Monomials.{Powers}
-use Rattle.geo_poly.specs.Polynomials.{CanMultiply, norm_of, polynomial_of, product_of, term_cmp}
+use Rattle.geo_poly.specs.Polynomials.{norm_of, polynomial_of, product_of, term_cmp}
 use Rattle.geo_poly.specs.Shared.{Indices, named}
 use Rattle.geo_poly.specs.Variables.{var_cmp}
 use Rattle.geo_poly.proofs.KeyedChains.{chain_indices, chain_terms}

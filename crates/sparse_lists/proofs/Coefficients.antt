@@ -1,5 +1,5 @@
 -- Whole coefficients add up.
-use Rattle.std.proofs.Common.{◌≡◌, ℕ, eqb, true, ℤ, pos, negsuc, ◌+ℤ◌, refl, ap, unsigned_abs, arith}
+use Rattle.std.proofs.Common.{◌≡◌, eqb, true, ℤ, pos, negsuc, refl, ap, unsigned_abs, arith}
 use Rattle.std.proofs.lemmas.Int.{ints}
 use Rattle.std.proofs.lemmas.Bool.Decides.{nat_tests}
 use Rattle.sparse_lists.specs.Coefficients.{coefficients}

@@ -1,5 +1,5 @@
 -- The sum of two multiples of a run.
-use Rattle.std.proofs.Common.{◌≡◌, ◌≢◌, ℕ, ◌+◌, ◌*◌, ◌-◌, ◌<◌, ◌≤◌, false, ℤ, pos, ◌+ℤ◌, ◌*ℤ◌, List, [], ◌∷◌, ◌++◌, append_assoc, length, get_or, map, take, drop, set}
+use Rattle.std.proofs.Common.{◌≡◌, ◌≢◌, ℕ, ◌+◌, ◌*◌, ◌<◌, ◌≤◌, ℤ, pos, ◌*ℤ◌, List, ◌++◌, append_assoc, length, get_or, map, take, drop, set}
 use Rattle.std.proofs.Common.{◌⊎◌, inl, inr, sym, ap, ◌∙◌, unsigned_abs, arith}
 use Rattle.std.specs.Ordering.{flip_args, nat_cmp}
 use Rattle.std.proofs.lemmas.List.{length-map}

@@ -1,6 +1,6 @@
 -- Multiples of a run by a term.
-use Rattle.std.proofs.Common.{◌≡◌, ◌≢◌, ℕ, zero, suc, ◌+◌, ◌*◌, ◌<◌, ◌≤◌, eqb, Bool, true, false, ℤ, pos, ◌*ℤ◌, List, [], ◌∷◌, ◌++◌}
-use Rattle.std.proofs.Common.{append_assoc, length, get_or, map, take, drop, set, refl, sym, ap, subst, ◌∙◌, unsigned_abs, arith}
+use Rattle.std.proofs.Common.{◌≡◌, ℕ, ◌+◌, ◌*◌, ◌<◌, ◌≤◌, eqb, false, ℤ, ◌*ℤ◌, List, [], ◌∷◌, ◌++◌}
+use Rattle.std.proofs.Common.{append_assoc, length, get_or, map, take, drop, set, sym, ap, ◌∙◌, unsigned_abs, arith}
 use Rattle.std.specs.Ordering.{flip_args, nat_cmp}
 use Rattle.std.specs.declared.cmp.Ordering.TheVariants.{Less}
 use Rattle.std.proofs.Math.Nat.{mul-le-mul}
@@ -14,7 +14,7 @@ use Rattle.sparse_lists.proofs.Sums.{AllKeys-at}
 use Rattle.sparse_lists.specs.Coefficients.{coefficients, Pairs, scaled}
 use Rattle.term_runs.specs.Runs.{IsRun, norm_of}
 use Rattle.term_runs.proofs.Order.{coefficient-le}
-use Rattle.term_runs.proofs.Turns.{nonzero, read_left}
+use Rattle.term_runs.proofs.Turns.{read_left}
 
 -- A MULTIPLE OF A RUN IS A RUN
 below : (a b : ℕ) → a < b → nat_cmp a b ≡ Less

@@ -1,6 +1,6 @@
 -- The turns of a sum of two runs, in the place of the second.
-use Rattle.std.proofs.Common.{◌≡◌, ◌≢◌, ℕ, zero, suc, ◌+◌, ◌-◌, ◌<◌, ◌≤◌, eqb, Bool, true, false, ℤ, pos, ◌+ℤ◌, List, [], ◌∷◌, ◌++◌, ◌⊎◌, inl, inr}
-use Rattle.std.proofs.Common.{length, get_or, map, take, drop, set, refl, sym, ap, ap₂, subst, ◌∙◌, unsigned_abs, arith}
+use Rattle.std.proofs.Common.{◌≡◌, ◌≢◌, ℕ, zero, suc, ◌+◌, ◌-◌, ◌<◌, ◌≤◌, Bool, true, false, ℤ, pos, ◌+ℤ◌, List, [], ◌∷◌, ◌++◌, inl, inr}
+use Rattle.std.proofs.Common.{length, get_or, map, take, drop, set, refl, sym, ap, subst, ◌∙◌, unsigned_abs, arith}
 use Rattle.std.specs.Ordering.{MatchOrdering, flip_args, nat_cmp}
 use Rattle.std.specs.declared.cmp.Ordering.{Ordering}
 use Rattle.std.specs.declared.cmp.Ordering.TheVariants.{Less, Equal, Greater}
@@ -13,7 +13,7 @@ use Rattle.sparse_lists.specs.Coefficients.{coefficients, Pairs}
 use Rattle.sparse_lists.proofs.Coefficients.{coefficients_add, zero_is}
 use Rattle.term_runs.specs.Inner.{CountsAs, IsTurn}
 use Rattle.term_runs.specs.Runs.{IsRun, norm_of, run_of}
-use Rattle.term_runs.proofs.Order.{coefficient-le, falling, unsigned_abs-add-le}
+use Rattle.term_runs.proofs.Order.{coefficient-le, falling}
 
 -- WHAT IS WRITTEN
 -- the term behind the others, where it counts

@@ -1,5 +1,5 @@
 -- Runs: keys with coefficients, the greatest key first, and no coefficient is 0.
-use Rattle.std.specs.Prelude.{ℕ, ◌+◌, ◌<◌, List, [], ◌∷◌, ◌++◌, sum_by, unsigned_abs}
+use Rattle.std.specs.Prelude.{ℕ, ◌+◌, ◌<◌, [], ◌∷◌, ◌++◌, sum_by, unsigned_abs}
 use Rattle.std.specs.Ordering.{flip_args, nat_cmp}
 use Rattle.sparse_lists.specs.SparseLists.{AllKeys, IsCanonical, canonical}
 use Rattle.sparse_lists.specs.Coefficients.{coefficients, Pairs, scaled}

@@ -1,7 +1,7 @@
-use Rattle.std.proofs.Common.{◌≡◌, ◌*◌, ◌<◌, ◌++◌, ◌^◌, map, sym, ap, ap₂, subst, ◌∙◌, arith}
+use Rattle.std.proofs.Common.{◌≡◌, ◌++◌, ◌^◌, map, sym, ap, ap₂, subst, ◌∙◌, arith}
 use Rattle.geo_poly.specs.Chained.{indexed_pair}
-use Rattle.term_runs.specs.Runs.{IsRun, KeysFit, norm_of, products, run_of}
-use Rattle.geo_poly.proofs.RunProducts.{indexed-pairs, keyed-worded, norms_fit, pair_of, run_indices, run_terms, worded, words_fit, words_run}
+use Rattle.term_runs.specs.Runs.{IsRun, KeysFit, products, run_of}
+use Rattle.geo_poly.proofs.RunProducts.{indexed-pairs, keyed-worded, pair_of, run_indices, run_terms, worded, words_fit, words_run}
 use Rattle.geo_poly.proofs.run_products.run_product.Goals as goal
 
 pub push_product-requires-clause-left : goal.push_product-requires-clause-left

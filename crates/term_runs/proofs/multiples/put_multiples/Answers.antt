@@ -1,4 +1,4 @@
-use Rattle.std.proofs.Common.{◌≡◌, ◌+◌, ◌<◌, ◌≤◌, ◌++◌, drop, length, take, map, arith}
+use Rattle.std.proofs.Common.{◌+◌, ◌<◌, ◌++◌, drop, length, take, map, arith}
 use Rattle.std.proofs.lemmas.List.{length-map}
 use Rattle.sparse_lists.specs.Coefficients.{scaled}
 use Rattle.term_runs.proofs.Scaled.{key_fits, multiple_fits, multiple_more}

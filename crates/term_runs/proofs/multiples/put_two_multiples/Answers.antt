@@ -1,4 +1,4 @@
-use Rattle.std.proofs.Common.{◌≡◌, ◌+◌, ◌*◌, ◌<◌, ◌≤◌, ◌++◌, ◌⊎◌, inl, inr, drop, length, take, map, ap, ◌∙◌, unsigned_abs, arith}
+use Rattle.std.proofs.Common.{◌+◌, ◌*◌, ◌<◌, ◌≤◌, ◌++◌, ◌⊎◌, inl, inr, drop, length, take, map, ap, ◌∙◌, unsigned_abs, arith}
 use Rattle.std.proofs.lemmas.List.{length-map}
 use Rattle.sparse_lists.specs.Coefficients.{scaled}
 use Rattle.term_runs.specs.Runs.{norm_of, run_of}

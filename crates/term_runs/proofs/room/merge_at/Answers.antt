@@ -1,5 +1,5 @@
-use Rattle.std.proofs.Common.{◌≤◌, ◌-◌, ◌++◌, length, map, take, ap, ◌∙◌, arith}
-use Rattle.std.proofs.lemmas.List.{length-drop, length-take-le, map-append}
+use Rattle.std.proofs.Common.{◌≤◌, ◌++◌, length, map, take, ap, ◌∙◌, arith}
+use Rattle.std.proofs.lemmas.List.{map-append}
 use Rattle.term_runs.proofs.Parts.{put_front}
 use Rattle.term_runs.proofs.room.merge_at.Goals as goal
 

@@ -1,4 +1,4 @@
-use Rattle.std.proofs.Common.{◌≤◌, ◌-◌, ◌++◌, length, map, take, ap, ◌∙◌, arith}
+use Rattle.std.proofs.Common.{◌≤◌, ◌++◌, length, map, take, ap, ◌∙◌, arith}
 use Rattle.std.proofs.lemmas.List.{length-drop, map-append}
 use Rattle.term_runs.proofs.Parts.{put_front}
 use Rattle.term_runs.proofs.room.two_multiples_at.Goals as goal

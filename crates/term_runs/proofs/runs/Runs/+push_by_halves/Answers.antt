@@ -1,6 +1,5 @@
-use Rattle.std.proofs.Common.{◌≡◌, ◌+◌, ◌*◌, ◌/◌, ◌<◌, ◌≤◌, ◌++◌, [], ◌∷◌, length, map, sym, ap, subst, ◌∙◌, arith, rules}
+use Rattle.std.proofs.Common.{◌≡◌, ◌/◌, ◌++◌, [], ◌∷◌, length, map, sym, ap, subst, ◌∙◌, arith, rules}
 use Rattle.std.specs.Result.{OnOk}
-use Rattle.sparse_lists.specs.Coefficients.{scaled}
 use Rattle.term_runs.specs.Runs.{IsRun, KeysFit, norm_of, products, run_of}
 use Rattle.term_runs.proofs.Parts.{one_item, two_items}
 use Rattle.term_runs.proofs.Products.{both_norms, halves, joined, joined_left, joined_right, left_keys, left_norm, left_part, one_product}

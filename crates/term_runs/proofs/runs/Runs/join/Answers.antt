@@ -1,6 +1,5 @@
-use Rattle.std.proofs.Common.{◌≡◌, ◌+◌, ◌<◌, ◌≤◌, ◌++◌, drop, length, map, take, sym, ap, ap₂, subst, ◌∙◌, arith}
+use Rattle.std.proofs.Common.{◌≤◌, ◌++◌, length, sym, ap, ap₂, subst, ◌∙◌, arith}
 use Rattle.std.specs.Ordering.{nat_cmp}
-use Rattle.std.specs.Prelude.{slice_range}
 use Rattle.sparse_lists.specs.Coefficients.{sum_of}
 use Rattle.term_runs.specs.Runs.{IsRun, norm_of}
 use Rattle.term_runs.proofs.Parts.{seen_drop, seen_range, seen_take, view_length}

@@ -1,4 +1,4 @@
-use Rattle.std.proofs.Common.{length, map, take, sym, ap, ◌∙◌, arith}
+use Rattle.std.proofs.Common.{length, take, sym, ap, ◌∙◌, arith}
 use Rattle.term_runs.proofs.Parts.{view_length, view_take}
 use Rattle.term_runs.proofs.runs.Runs.truncate.Goals as goal
 
