@@ -1,6 +1,6 @@
 """The search for another formulation of a program's theorem: which are tried, in which order, and what is believed of them.
 
-Nothing is believed of the search itself. A statement is told as false where `place` shows a figure in which it fails, and as solved where
+Nothing is believed of the search itself. A statement is told as false where `place` shows a figure in which it fails, and as proved where
 `cite` shows the proved formulation at the figure, and `place` shows that there is one."""
 # SPDX-License-Identifier: Apache-2.0
 import random
@@ -25,7 +25,7 @@ FRAMED = 2
 FRAMES_SHARE, SMALLER_SHARE, ROUND_SHARE = 1 / 10, 1 / 20, 1 / 8
 FIRST_ORDERS, FIRST_SHARE = 12, 1 / 30
 SAMPLES = 200
-SOLVED = "solved"
+CARRIED_BACK = "carried back"
 
 
 class Search:
@@ -104,7 +104,7 @@ class Search:
         return self.prover.is_past(self.prover.until) or self.tries is not None and self.tried >= self.tries
 
     def first(self, workers, queue, until):
-        """The first of the queue that is solved."""
+        """The first of the queue that is carried back."""
         waiting = deque()
         while True:
             while len(waiting) < self.jobs and not self.is_over() and not self.prover.is_past(until) and (attempt := next(queue, None)):
@@ -113,7 +113,7 @@ class Search:
             if not waiting:
                 return None
             attempt = self.result(waiting.popleft())
-            if attempt.outcome == SOLVED:
+            if attempt.outcome == CARRIED_BACK:
                 return attempt
             if attempt.log:
                 self.proved += 1
@@ -141,5 +141,5 @@ class Search:
         attempt.outcome = cited.last
         if cited.status == DONE:
             attempt.placed = figure_where("holds", self.prover, figure, SAMPLES, SAMPLES)
-            attempt.outcome = SOLVED if attempt.placed else "no figure was found"
+            attempt.outcome = CARRIED_BACK if attempt.placed else "no figure was found"
         return attempt
