@@ -1,13 +1,17 @@
 """The words of the proved program, with limits on time, steps and memory; what runs can be stopped from any thread."""
 # SPDX-License-Identifier: Apache-2.0
+import os
 import resource
 import subprocess
 import threading
 import time
 from dataclasses import dataclass
+from math import ceil
+from pathlib import Path
 
 MOST = 1_000_000_000_000
 MINUTE, ROOM = 60, 3 << 30
+SHORTEST = 0.02
 DONE, TOO_LONG = 13, 12
 CUT_OFF = "cut off"
 
@@ -31,6 +35,15 @@ class Answer:
         return "too long" if self.status == TOO_LONG else self.text.rstrip("\n").rpartition("\n")[2]
 
 
+def processor_seconds(pid):
+    """The processor time of a process that was started here; 0 where it is gone."""
+    try:
+        times = Path(f"/proc/{pid}/stat").read_text().rpartition(")")[2].split()[11:13]
+    except OSError:
+        return 0
+    return sum(map(int, times)) / os.sysconf("SC_CLK_TCK")
+
+
 class Prover:
     """The program. With `seconds` for all, each run has its own limit on processor time. Without, it may take a minute, so that an answer
     does not depend on the machine."""
@@ -50,7 +63,7 @@ class Prover:
         return until is not None and self.now() > until
 
     def left(self):
-        return None if self.until is None else max(0.05, self.until - self.now())
+        return None if self.until is None else self.until - self.now()
 
     def ask(self, word, text, seconds=MINUTE, steps=MOST):
         """The answer of a word; it may take so many seconds of processor time, and no longer than the time that is left."""
@@ -60,16 +73,27 @@ class Prover:
         limit = MINUTE if self.until is None else seconds
         try:
             resource.prlimit(child.pid, resource.RLIMIT_AS, (ROOM, ROOM))
-            resource.prlimit(child.pid, resource.RLIMIT_CPU, (limit, limit))
-            text, _ = child.communicate(text.encode(errors="surrogateescape"), self.left())
-        except (subprocess.TimeoutExpired, ProcessLookupError):
-            child.kill()
-            child.communicate()
-            return Answer("", None)
+            resource.prlimit(child.pid, resource.RLIMIT_CPU, (ceil(limit), ceil(limit)))
+        except ProcessLookupError:
+            pass
+        try:
+            text = self.written(child, text.encode(errors="surrogateescape"), limit)
         finally:
             with self.lock:
                 self.live.discard(child)
         return Answer(text.decode("ascii", "replace"), child.returncode if child.returncode >= 0 else None)
+
+    def written(self, child, text, limit):
+        """What the child writes in so much processor time, and in the time that is left; then it is killed."""
+        rest = limit
+        while True:
+            left = self.left()
+            try:
+                return child.communicate(text, max(SHORTEST, rest if left is None else min(rest, left)))[0]
+            except subprocess.TimeoutExpired:
+                text, rest = None, limit - processor_seconds(child.pid)
+                if rest <= 0 or self.is_past(self.until):
+                    child.kill()
 
     def start(self, words):
         with self.lock:

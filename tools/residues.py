@@ -80,40 +80,50 @@ def random_figure(commands, dice, with_derivatives=False):
 
 
 class Freedom:
-    """How free the points of a figure with derivatives are beside one another, by the rank of these."""
+    """How free the points of a figure with derivatives are beside one another. A tie has a factor for each number of these points, so that
+    the derivatives with these factors have the sum 0; what no tie has of a point is free."""
 
-    def __init__(self, figure):
+    def __init__(self, figure, names):
         numbers = {**figure.points, **{name: (v,) for name, v in figure.numbers.items()}}
-        self.rows = {name: [[a % PRIME for a in v.d] for v in some] for name, some in numbers.items()}
-        self.bases = {frozenset(): {}}
+        self.places, rows = {}, []
+        for name in names:
+            self.places[name] = range(len(rows), len(rows) + len(numbers[name]))
+            rows += [[a % PRIME for a in v.d] for v in numbers[name]]
+        self.ties = ties(rows)
 
-    def beside(self, x, names):
-        """How many of the two numbers of X are free where these points and numbers stay."""
-        basis = dict(self.basis(frozenset(names)))
-        return sum(self.extend(basis, row) for row in self.rows[x])
+    def of(self, x):
+        """How many of the two numbers of the point X are free where the others stay."""
+        j, k = self.places[x]
+        held = next((tie for tie in self.ties if tie[j] or tie[k]), None)
+        if held is None:
+            return 2
+        return int(all((tie[j] * held[k] - tie[k] * held[j]) % PRIME == 0 for tie in self.ties))
 
-    def basis(self, names):
-        """Reduced rows that have the span of these names, each by its pivot."""
-        if names not in self.bases:
-            basis = {}
-            for name in names:
-                for row in self.rows[name]:
-                    if len(basis) < len(row):
-                        self.extend(basis, row)
-            self.bases[names] = basis
-        return self.bases[names]
+    def without(self, x):
+        """The same beside the others."""
+        other = object.__new__(type(self))
+        other.places, other.ties = self.places, self.ties
+        for k in self.places[x]:
+            other.ties = cleared(other.ties, k)
+        return other
 
-    @staticmethod
-    def extend(basis, row):
-        """Whether the row is outside of the span; then it is taken in."""
-        for pivot, other in basis.items():
-            if k := row[pivot]:
-                row = [(a - k * b) % PRIME for a, b in zip(row, other)]
-        pivot = next((k for k, a in enumerate(row) if a), None)
-        if pivot is not None:
-            k = inverse(row[pivot])
-            basis[pivot] = [a * k % PRIME for a in row]
-        return pivot is not None
+
+def cleared(rows, k):
+    """Sums of the rows that span all those with 0 in the place k."""
+    pivot = next((row for row in rows if row[k]), None)
+    if pivot is None:
+        return rows
+    upside_down = inverse(pivot[k])
+    factors = [(row, row[k] * upside_down % PRIME) for row in rows if row is not pivot]
+    return [[(a - f * b) % PRIME for a, b in zip(row, pivot)] if f else row for row, f in factors]
+
+
+def ties(rows):
+    """Vectors that span those whose product with the rows is 0."""
+    size, found = len(rows), [[*row, *(int(j == k) for j in range(len(rows)))] for k, row in enumerate(rows)]
+    for k in range(len(rows[0]) if rows else 0):
+        found = cleared(found, k)
+    return [row[len(row) - size :] for row in found]
 
 
 def holds(statement, figure):

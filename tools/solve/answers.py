@@ -45,10 +45,10 @@ def proved_answer(book, statement, figure, line, form):
 
 def open_answer(search):
     """What was tried, and a formulation that was proved and not carried back."""
-    lost = search.lost
+    lost = search.proved[0] if search.proved else None
     return text_of(
         *program_lines(search.book, search.statement),
-        f"note {search.tried} formulations were tried; {search.proved} were proved and not carried back",
+        f"note {search.tried} formulations were tried; {len(search.proved)} were proved and not carried back",
         *([f"form {line_of(c)}" for c in lost.form] + [f"note cite answers: {lost.outcome}"] if lost else []),
         "open",
     )

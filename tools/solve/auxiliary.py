@@ -37,6 +37,13 @@ def touching(ground, facts):
             yield "tratio", (c.name, c.args[0], ONE)
 
 
+def mirrors(ground, facts):
+    """Where two points are mirrored in one line: the point of it that is on the line of both, and so on the line of the images."""
+    for one, other in combinations([c for c in ground.commands if c.word == "reflect"], 2):
+        if one.args[1:] == other.args[1:]:
+            yield "inter", (*one.args[1:], one.args[0], other.args[0])
+
+
 def again(ground, facts):
     """A point of the statement again, by another construction: it is proved of this one, and carried over."""
     rules = (by_vectors, by_line_and_circle, by_two_lines, by_foot, by_ratio, by_two_circles)
@@ -47,7 +54,8 @@ def again(ground, facts):
 
 # What smaller statements and the rounds of the search take, and how many points at most.
 FOR_SMALLER = [((), 0), ((triangle,), 6), ((triangle, middles), 8), ((touching,), 12)]
-POOLS = [((), 0), ((middles,), 6), ((touching,), 12), ((triangle,), 6), ((again,), 3), ((triangle, middles), 8), ((triangle, again), 8)]
+POOLS = [((), 0), ((mirrors,), 4), ((middles,), 6), ((touching,), 12), ((triangle,), 6), ((again,), 3)]
+POOLS += [((triangle, middles), 8), ((triangle, again), 8)]
 
 
 def pool(ground, rules, most):

@@ -41,7 +41,8 @@ def in_rectangles(commands, names, axes, added, form):
         p, q = names.command("foot", x, a, b), names.command("foot", x, a, v)
         added += [p, q]
         form += [Command("online", p.name, (a, b)), Command("online", q.name, (a, v)), Command("translate", x, (a, p.name, q.name))]
-    return added, form + [c for c in commands if c.word not in ("point", "assume")]
+    made = {c.name for c in form}
+    return added, form + [c for c in commands if c.word != "assume" and c.name not in made]
 
 
 def frames(ground, commands, rule, most):
@@ -99,6 +100,15 @@ def smaller_identical(ground, facts):
             for q in combinations(t, 2):
                 if ground.at[p[0]] != ground.at[p[1]] and ground.at[q[0]] != ground.at[q[1]]:
                     yield [], [*free(*p, *q), Command("inter", x, p + q), Command("inter", y, p + q)]
+
+
+def smaller_centres(ground, facts):
+    """Two points are one where both are equally far from three points."""
+    x, y = ground.statement.args
+    for (o, on), (p, other) in permutations(facts.circles, 2):
+        for three in combinations([a for a in on if a in other], 3) if (o, p) == (x, y) else ():
+            if len({ground.at[a] for a in three}) == 3:
+                yield [], [*free(*three), Command("circumcenter", x, three), Command("circumcenter", y, three)]
 
 
 def smaller_midpoint(ground, facts):
@@ -164,7 +174,7 @@ def smaller_power(ground, facts):
 
 
 SMALLER = {
-    "identical": [smaller_identical],
+    "identical": [smaller_identical, smaller_centres],
     "midpoint": [smaller_midpoint],
     "same_length": [smaller_same_length],
     "concyclic": [smaller_circle, smaller_circumcenter, smaller_power],

@@ -73,10 +73,15 @@ class Told:
                     both = tuple(one[k] | other[k ^ turns[0]] for k in (0, 1))
                     self.directions = [d for d in self.directions if d not in (one, other)] + [both]
                     break
-            self.lines += [p | q for sides in self.directions for some in sides for p, q in combinations(some, 2) if p & q and not self.is_same(p, q)]
+            pairs = [pair for sides in self.directions for some in sides for pair in combinations(some, 2) if not self.is_same(*pair)]
+            self.lines += [p | q for p, q in pairs if self.line_of(p) & self.line_of(q)]
 
     def follow(self, names, commands):
-        """Circles that follow: a point of a mirror is equally far from both sides of it, a right angle stands on a circle over its chord."""
+        """Circles that follow: a point of a mirror is equally far from both sides of it, a right angle stands on a circle over its chord. And
+        lines: that of two images meets the mirror where that of the points does."""
+        for one, other in combinations([c for c in commands if c.word == "reflect"], 2):
+            self.lines += [frozenset((one.name, other.name, m)) for m in self.on_mirror(one, other)]
+        one_line_each(self.lines)
         middles = [(c.name, c.args[:2]) for c in commands if c.word == "midpoint"]
         for word, x, a in commands:
             if word == "reflect":
@@ -87,6 +92,11 @@ class Told:
         for m, (a, b) in middles:
             self.circles += [(m, frozenset((a, x))) for x in names - {a, b} if self.is_right(frozenset((x, a)), frozenset((x, b)))]
         one_circle_each(self.circles)
+
+    def on_mirror(self, one, other):
+        """The points of a common mirror that are on the line of both points that are mirrored: they are on the line of the images, too."""
+        axis = self.line_of(frozenset(one.args[1:]))
+        return axis & self.line_of(frozenset((one.args[0], other.args[0]))) if set(other.args[1:]) <= axis else ()
 
     def feet_of(self, o, p, q):
         """The points of the line PQ below O."""

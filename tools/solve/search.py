@@ -10,20 +10,21 @@ from itertools import chain, count
 
 from auxiliary import FOR_SMALLER, POOLS, pool
 from frames import frames, smaller, touching_first
-from ground import Ground, Orders
+from ground import Ground
+from orders import Orders
 from prover import CUT_OFF, DONE
 from residues import NoFigure
 from canonical import Names, program_text
 from figures import figure_where
 
-# The stages of a proof: its seconds of processor time, and how many of those that were cut off at the stage before get so far.
-STAGES = ((1, 30), (4, 2))
-CITE_SECONDS = 2
-# How many orders that come far go into frames, and into how many.
+# The seconds of processor time that a proof has, and a citation: most that can be proved are proved at once.
+STAGES = ((0.15, 0.3), (1, 2), (5, 5))
+# How many of a round's orders are tried, and of those that came farthest in all rounds so far how many are tried again at each stage.
+ORDERS, AGAIN = 24, (3, 1)
+# How many orders go into frames, and into how many.
 FRAMED = 2
 # The parts of the time that frames, smaller statements, and one list of a round have.
-FRAMES_SHARE, SMALLER_SHARE, ROUND_SHARE = 1 / 10, 1 / 20, 1 / 8
-FIRST_ORDERS, FIRST_SHARE = 12, 1 / 30
+FRAMES_SHARE, SMALLER_SHARE, ROUND_SHARE = 1 / 8, 1 / 20, 1 / 10
 SAMPLES = 200
 CARRIED_BACK = "carried back"
 
@@ -32,7 +33,8 @@ class Search:
     def __init__(self, commands, statement, prover, jobs, tries=None, show=None, seed=1):
         self.book, self.statement, self.prover = commands, statement, prover
         self.jobs, self.tries, self.show = jobs, tries, show
-        self.tried, self.proved, self.lost, self.done = 0, 0, None, set()
+        self.tried, self.proved, self.done = 0, [], set()
+        self.cut_off = []
         self.names = Names(c.name for c in commands)
         self.dice = random.Random(seed)
 
@@ -42,21 +44,16 @@ class Search:
             ground = Ground(self.book, self.statement, self.names, self.dice)
         except NoFigure:
             return
-        framed = self.fitting(chain(touching_first(ground), frames(ground, ground.commands, "frame", 6)))
-        yield framed, FRAMES_SHARE
+        yield self.fitting(chain(touching_first(ground), frames(ground, ground.commands, "frame", 6))), FRAMES_SHARE
+        yield self.farther(1, 6), FRAMES_SHARE
         for rules, most in FOR_SMALLER:
             wider = ground.with_added(pool(ground, rules, most)) if rules else ground
             yield self.fitting(smaller(wider, 40)), SMALLER_SHARE
         for k in count():
-            if k == len(POOLS):
-                again = [attempt for attempt in framed if attempt.outcome == CUT_OFF]
-                for attempt in again:
-                    attempt.stage = len(STAGES) - 1
-                yield again, FRAMES_SHARE
             rules, most = POOLS[k % len(POOLS)]
             added = pool(ground, rules, most)
             if not most or added:
-                yield from self.round(ground.with_added(added), k < len(POOLS))
+                yield from self.round(ground.with_added(added), k >= len(POOLS))
 
     def fitting(self, tries):
         """The tries that were not made before, without those that make no figure."""
@@ -73,19 +70,24 @@ class Search:
                 self.done.add(text)
                 found.append(attempt)
 
-    def round(self, ground, is_first):
-        """Orders of one ground, the lightest first; and then in frames; those that came farthest with more time. The first rounds have a part of
-        these, so that all auxiliary points have their turn soon."""
-        size, share = (FIRST_ORDERS, FIRST_SHARE) if is_first else (STAGES[0][1], ROUND_SHARE)
-        some = self.fitting(iter(Orders(ground).batch(size)))
-        framed = (attempt for t in some[:FRAMED] for attempt in frames(ground, t.own_form, "frame of an order", FRAMED))
-        for stage, (_, most) in enumerate(STAGES[: 1 if is_first else None]):
-            some = sorted((t for t in some if stage == 0 or t.outcome == CUT_OFF and not t.log), key=lambda attempt: -attempt.far)[:most]
-            for attempt in some:
-                attempt.stage = stage
-            yield some, share
-            if stage == 0:
-                yield self.fitting(framed), share
+    def round(self, ground, is_later):
+        """Orders of one ground, the lightest first, and some of them in frames; then those that came farthest of all so far, with more time."""
+        some = self.fitting(iter(Orders(ground).batch(ORDERS)))
+        yield some, ROUND_SHARE
+        some = [t for t in some if not t.log]
+        best = some[:1] + [t for t in sorted(some[1:], key=lambda attempt: attempt.far, reverse=True)][: FRAMED - 1]
+        framed = (attempt for t in best for attempt in frames(ground, t.own_form, "frame of an order", FRAMED))
+        yield self.fitting(framed), ROUND_SHARE
+        for stage, most in enumerate(AGAIN[: 1 + is_later], 1):
+            yield self.farther(stage, most), ROUND_SHARE
+
+    def farther(self, stage, most):
+        """Those that came farthest of the tries that were cut off at the stage before."""
+        some = sorted((t for t in self.cut_off if t.stage == stage - 1), key=lambda t: (bool(t.log), t.far), reverse=True)[:most]
+        for attempt in some:
+            self.cut_off.remove(attempt)
+            attempt.stage = stage
+        return some
 
     def run(self):
         """The first formulation, in the order of the search, that is cited at a figure that there is; None: there is none."""
@@ -115,14 +117,15 @@ class Search:
             attempt = self.result(waiting.popleft())
             if attempt.outcome == CARRIED_BACK:
                 return attempt
-            if attempt.log:
-                self.proved += 1
-                self.lost = self.lost or attempt
+            if attempt.outcome == CUT_OFF:
+                self.cut_off.append(attempt)
+            if attempt.log and attempt not in self.proved:
+                self.proved.append(attempt)
 
     def result(self, waiting):
         """The outcome of a try; on a terminal the seconds are told meanwhile."""
         while self.show:
-            self.show(f"{self.tried} formulations tried, {self.proved} proved and not carried back")
+            self.show(f"{self.tried} formulations tried, {len(self.proved)} proved and not carried back")
             try:
                 return waiting.result(0.5)
             except TimeoutError:
@@ -131,15 +134,32 @@ class Search:
 
     def prove_and_cite(self, attempt):
         """The try, with what came of it."""
-        answer = self.prover.ask("prove", program_text(attempt.form, self.statement), STAGES[attempt.stage][0])
-        attempt.outcome = answer.last
-        if answer.status != 0:
-            attempt.far = answer.text.count("\n") / len(attempt.form)
+        for_proof, for_citation = STAGES[attempt.stage]
+        if not attempt.log and not self.prove(attempt, for_proof):
             return attempt
-        attempt.log, figure = answer.text, program_text(attempt.figure, self.statement)
-        cited = self.prover.ask("cite", attempt.citation(figure), CITE_SECONDS)
+        figure = program_text(attempt.figure, self.statement)
+        cited = self.prover.ask("cite", attempt.citation(figure), for_citation)
         attempt.outcome = cited.last
         if cited.status == DONE:
             attempt.placed = figure_where("holds", self.prover, figure, SAMPLES, SAMPLES)
             attempt.outcome = CARRIED_BACK if attempt.placed else "no figure was found"
         return attempt
+
+    def prove(self, attempt, seconds):
+        """Whether the formulation is proved in so much time."""
+        answer = self.prover.ask("prove", program_text(attempt.form, self.statement), seconds)
+        attempt.outcome = answer.last
+        if answer.status == 0:
+            attempt.log = answer.text
+        else:
+            attempt.far = reach(answer.text)
+        return answer.status == 0
+
+
+def reach(log):
+    """How far a proof came: the points that went out of its last goal, beside those that are left, and a little for a short rest."""
+    goals = log.count("\ngoal ")
+    rows = [row.split(" ", 2) for row in log.rpartition("\ngoal ")[2].splitlines() if row.startswith("point ")]
+    if not goals or not rows:
+        return goals + log.count("\ncondition ") / 1000
+    return goals + 1 - int(rows[-1][1]) / (int(rows[0][1]) + 1) - len(log) / 1e9

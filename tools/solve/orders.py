@@ -1,0 +1,139 @@
+"""The points of a figure in other orders. One after another is taken away, by a construction that leaves it as free beside the points that
+are left as it is in the figure; backwards these are a formulation that has all relations of the figure."""
+# SPDX-License-Identifier: Apache-2.0
+from dataclasses import dataclass, field
+
+from canonical import Command, names_in, needed, program_text
+from constructions import constructions
+from relations import ON_LINES
+from residues import Freedom
+from weights import WEIGHT, weight
+
+# How many orders are drawn, and how many are made of the lightest of those by another place for some points.
+DRAWN, VARIED, LIGHTEST = 60, 140, 6
+# How many orders of one weight are tried: they are mostly the same with other names.
+ALIKE = 2
+# How often an order that leads nowhere is taken back by some points.
+STEPS_BACK = 12
+
+
+@dataclass
+class Order:
+    """The points that it has, the place of each, the constructions that it likes, and the formulation that came of it."""
+
+    points: list
+    places: dict
+    style: dict
+    liked: dict = field(default_factory=dict)
+    form: list = None
+    weight: float = 0
+
+
+class Orders:
+    """The orders of the points of a ground."""
+
+    def __init__(self, ground):
+        self.ground, self.dice = ground, ground.dice
+        self.facts = ground.relations()
+        self.made = constructions(self.facts, ground.commands + ground.added, self.dice)
+        self.needs = {c: frozenset(names_in(c.args)) for made in self.made.values() for c in made}
+        own = {*ground.commands, *ground.added}
+        self.known = {c: c in own or self.facts.known.says(c) for c in self.needs}
+        self.params = [c for c in ground.commands if c.word == "param"]
+        self.freedom, self.place = Freedom(ground.real, [c.name for c in self.params] + self.facts.points), {}
+        for c in ground.commands + ground.added:
+            own = len(self.place) / len(ground.commands)
+            self.place[c.name] = max((self.place.get(x, 0) for x in names_in(c.args)), default=0) if c in ground.added else own
+        self.named = set(names_in(ground.statement.args))
+        self.goal = [x for x in dict.fromkeys(names_in(ground.statement.args)) if x in ground.at]
+
+    def batch(self, size):
+        """So many formulations that are true at random numbers, each once, the lightest first."""
+        found, lightest = {}, []
+        for k in range(DRAWN + VARIED):
+            one = self.drawn() if k < DRAWN or not lightest else self.varied(self.dice.choice(lightest))
+            if self.peel(one) and self.ground.is_true(one.form):
+                if found.setdefault(program_text(one.form, self.ground.statement), one) is one:
+                    lightest = sorted([*lightest, one], key=lambda one: one.weight)[:LIGHTEST]
+        some = sorted(found.values(), key=lambda one: one.weight)
+        some = [one for k, one in enumerate(some) if k < ALIKE or some[k - ALIKE].weight < one.weight]
+        return [self.ground.attempt("order", one.form) for one in some[:size]]
+
+    def drawn(self):
+        """An order with the points of the statement and some of the others: that of the program, more or less mixed."""
+        share, style = self.dice.choice((0.3, 0.6, 1)), self.style()
+        points = [x for x in self.facts.points if x not in self.facts.added or x in self.goal or self.dice.random() < share]
+        return Order(points, self.mixed(style), style)
+
+    def mixed(self, style):
+        return {x: self.place[x] + style["mixed"] * self.dice.random() for x in self.facts.points}
+
+    def style(self):
+        """How much one order likes each construction, and other ways of it."""
+        style = {word: self.dice.choice((0.2, 1, 5)) / (1 + weight) for word, weight in WEIGHT.items()}
+        style["untold"], style["left out"] = map(self.dice.choice, ((0, 0, 0.05), (0, 0, 0.1, 0.5)))
+        style["unused"], style["mixed"] = map(self.dice.choice, ((0, 0, 0.3), (0.3, 0.5, 1, 2)))
+        return style
+
+    def varied(self, one):
+        """An order with other places for some of its points, and with one auxiliary point more or less."""
+        style, moved = self.style(), set(self.dice.sample(one.points, self.dice.randrange(1, 4)))
+        points, others = list(one.points), [x for x in self.facts.added if x not in self.goal]
+        if others and self.dice.random() < 0.3:
+            x = self.dice.choice(sorted(others))
+            points = [y for y in points if y != x] if x in points else [*points, x]
+        places = {x: self.dice.random() if x in moved else one.places.get(x, self.dice.random()) for x in self.facts.points}
+        liked = {x: c for x, c in one.liked.items() if x not in moved and self.dice.random() < 0.9}
+        return Order(points, places, style, liked)
+
+    def peel(self, one):
+        """Whether all points can be taken away in this order; then it has a formulation."""
+        numbers = [c.name for c in self.params if c.name in self.named or one.style["untold"]]
+        left, taken, back, freedom = list(one.points), [], STEPS_BACK, self.freedom
+        for x in [c.name for c in self.params if c.name not in numbers] + [x for x in self.facts.points if x not in left]:
+            freedom = freedom.without(x)
+        while left:
+            command = self.last(one, left, freedom, [c for c, *_ in taken], numbers)
+            if command:
+                taken.append((command, left, freedom))
+                left, freedom = [x for x in left if x != command.name], freedom.without(command.name)
+            elif back and taken:
+                back -= 1
+                for _ in range(min(len(taken), self.dice.randrange(1, 5))):
+                    _, left, freedom = taken.pop()
+                one.places = self.mixed(one.style)
+            else:
+                return False
+        made = [c for c, *_ in taken[::-1]]
+        one.form, one.liked = needed(self.params + made, self.goal), {c.name: c for c in made}
+        one.places = {c.name: k / len(made) for k, c in enumerate(made)}
+        one.weight = weight(one.form, self.ground.statement)
+        return True
+
+    def last(self, one, left, freedom, taken, numbers):
+        """The construction that is taken away next: of the first point in this order that has one."""
+        used = set(self.goal).union(*(self.needs.get(c, ()) for c in taken))
+        there = {*left, *numbers}
+        for x in sorted(left, key=lambda x: one.places[x] + one.style["unused"] * (x not in used), reverse=True):
+            command = self.construction(one, x, there - {x}, freedom, x not in used)
+            if command:
+                return command
+        return None
+
+    def construction(self, one, x, there, freedom, is_unused):
+        """A construction of X by points that are there. A point that nothing needs may also be left out."""
+        free, liked = freedom.of(x), one.liked.get(x)
+        leaves_out = is_unused and (liked and liked.word == "point" or self.dice.random() < one.style["left out"])
+        if free == 2 or leaves_out:
+            return Command("point", x, ())
+        can = [c for c, fixed in self.made[x].items() if fixed == 2 - free and self.needs[c] <= there]
+        if liked in can:
+            return liked
+        untold = 0 if x in self.goal else one.style["untold"]
+        weights = [one.style[c.word] * self.own_lines(c) * (1 if self.known[c] else untold) for c in can]
+        return self.dice.choices(can, weights)[0] if any(weights) else None
+
+    def own_lines(self, command):
+        """Less for a construction by lines of which the program has other points: what it says itself is shown at once."""
+        pairs = [frozenset((command.args[i], command.args[j])) for i, j in ON_LINES.get(command.word, ())]
+        return 0.2 ** sum(pair not in self.facts.pairs for pair in pairs)
