@@ -3,6 +3,7 @@
 import os
 import resource
 import subprocess
+import tempfile
 import threading
 import time
 from dataclasses import dataclass
@@ -69,39 +70,43 @@ class Prover:
         """The answer of a word; it may take so many seconds of processor time, and no longer than the time that is left."""
         if self.is_past(self.until):
             return Answer("", None)
-        child = self.start([self.program, word, *([] if word == "place" else ["--steps", str(steps)])])
         limit = MINUTE if self.until is None else seconds
+        with tempfile.TemporaryFile() as given:
+            given.write(text.encode(errors="surrogateescape"))
+            given.seek(0)
+            child = self.start([self.program, word, *([] if word == "place" else ["--steps", str(steps)])], given, limit)
         try:
-            resource.prlimit(child.pid, resource.RLIMIT_AS, (ROOM, ROOM))
-            resource.prlimit(child.pid, resource.RLIMIT_CPU, (ceil(limit), ceil(limit)))
-        except ProcessLookupError:
-            pass
-        try:
-            text = self.written(child, text.encode(errors="surrogateescape"), limit)
+            text = self.written(child, limit)
         finally:
             with self.lock:
                 self.live.discard(child)
         return Answer(text.decode("ascii", "replace"), child.returncode if child.returncode >= 0 else None)
 
-    def written(self, child, text, limit):
+    def written(self, child, limit):
         """What the child writes in so much processor time, and in the time that is left; then it is killed."""
         rest = limit
         while True:
             left = self.left()
             try:
-                return child.communicate(text, max(SHORTEST, rest if left is None else min(rest, left)))[0]
+                return child.communicate(timeout=max(SHORTEST, rest if left is None else min(rest, left)))[0]
             except subprocess.TimeoutExpired:
-                text, rest = None, limit - processor_seconds(child.pid)
+                rest = limit - processor_seconds(child.pid)
                 if rest <= 0 or self.is_past(self.until):
                     child.kill()
 
-    def start(self, words):
+    def start(self, words, given, limit):
+        """Runs a word on a file, with a limit on memory, and one on time that holds also where this program is killed."""
         with self.lock:
             if self.stopped:
                 raise Stopped
-            child = subprocess.Popen(words, stdin=subprocess.PIPE, stdout=subprocess.PIPE, stderr=subprocess.DEVNULL)
+            child = subprocess.Popen(words, stdin=given, stdout=subprocess.PIPE, stderr=subprocess.DEVNULL)
             self.live.add(child)
-            return child
+        try:
+            resource.prlimit(child.pid, resource.RLIMIT_AS, (ROOM, ROOM))
+            resource.prlimit(child.pid, resource.RLIMIT_CPU, (ceil(limit) + 1, ceil(limit) + 1))
+        except ProcessLookupError:
+            pass
+        return child
 
     def stop(self):
         """Ends what runs, and starts nothing more."""

@@ -44,6 +44,11 @@ def mirrors(ground, facts):
             yield "inter", (*one.args[1:], one.args[0], other.args[0])
 
 
+def chords(ground, facts):
+    """The midpoints of chords, as feet: the second point of a line on a circle is the first one mirrored in it."""
+    yield from (("foot", (c.args[2], *c.args[:2])) for c in ground.commands if c.word == "second")
+
+
 def again(ground, facts):
     """A point of the statement again, by another construction: it is proved of this one, and carried over."""
     rules = (by_vectors, by_line_and_circle, by_two_lines, by_foot, by_ratio, by_two_circles)
@@ -54,7 +59,7 @@ def again(ground, facts):
 
 # What smaller statements and the rounds of the search take, and how many points at most.
 FOR_SMALLER = [((), 0), ((triangle,), 6), ((triangle, middles), 8), ((touching,), 12)]
-POOLS = [((), 0), ((mirrors,), 4), ((middles,), 6), ((touching,), 12), ((triangle,), 6), ((again,), 3)]
+POOLS = [((), 0), ((mirrors, chords), 4), ((middles,), 6), ((touching,), 12), ((triangle,), 6), ((again,), 3)]
 POOLS += [((triangle, middles), 8), ((triangle, again), 8)]
 
 

@@ -1,17 +1,18 @@
 """The points of a figure in other orders. One after another is taken away, by a construction that leaves it as free beside the points that
 are left as it is in the figure; backwards these are a formulation that has all relations of the figure."""
 # SPDX-License-Identifier: Apache-2.0
+from collections import Counter
 from dataclasses import dataclass, field
 
 from canonical import Command, names_in, needed, program_text
 from constructions import constructions
 from relations import ON_LINES
 from residues import Freedom
-from weights import WEIGHT, weight
+from weights import WEIGHT, degree, weight
 
 # How many orders are drawn, and how many are made of the lightest of those by another place for some points.
-DRAWN, VARIED, LIGHTEST = 60, 140, 6
-# How many orders of one weight are tried: they are mostly the same with other names.
+DRAWN, VARIED, LIGHTEST = 60, 140, 4
+# How many orders with the same weights are tried: they are mostly the same with other names.
 ALIKE = 2
 # How often an order that leads nowhere is taken back by some points.
 STEPS_BACK = 12
@@ -26,7 +27,7 @@ class Order:
     style: dict
     liked: dict = field(default_factory=dict)
     form: list = None
-    weight: float = 0
+    weights: tuple = ()
 
 
 class Orders:
@@ -48,16 +49,27 @@ class Orders:
         self.goal = [x for x in dict.fromkeys(names_in(ground.statement.args)) if x in ground.at]
 
     def batch(self, size):
-        """So many formulations that are true at random numbers, each once, the lightest first."""
-        found, lightest = {}, []
+        """So many formulations that are true at random numbers, each once; in turn the next one that is light by the first of the weights, and
+        one by the other."""
+        found, lightest = {}, ([], [])
         for k in range(DRAWN + VARIED):
-            one = self.drawn() if k < DRAWN or not lightest else self.varied(self.dice.choice(lightest))
+            some = self.dice.choice(lightest)
+            one = self.drawn() if k < DRAWN or not some else self.varied(self.dice.choice(some))
             if self.peel(one) and self.ground.is_true(one.form):
                 if found.setdefault(program_text(one.form, self.ground.statement), one) is one:
-                    lightest = sorted([*lightest, one], key=lambda one: one.weight)[:LIGHTEST]
-        some = sorted(found.values(), key=lambda one: one.weight)
-        some = [one for k, one in enumerate(some) if k < ALIKE or some[k - ALIKE].weight < one.weight]
-        return [self.ground.attempt("order", one.form) for one in some[:size]]
+                    lightest = tuple(sorted([*some, one], key=lambda one: one.weights[w])[:LIGHTEST] for w, some in enumerate(lightest))
+        return [self.ground.attempt("order", one.form) for one in self.in_turn(list(found.values()))[:size]]
+
+    @staticmethod
+    def in_turn(found):
+        """Orders by both weights in turn, of those with the same weights only some."""
+        alike, kept = Counter(), {}
+        for pair in zip(*(sorted(found, key=lambda one: one.weights[w]) for w in (0, 1))):
+            for one in pair:
+                alike[one.weights] += id(one) not in kept
+                if alike[one.weights] <= ALIKE:
+                    kept[id(one)] = one
+        return list(kept.values())
 
     def drawn(self):
         """An order with the points of the statement and some of the others: that of the program, more or less mixed."""
@@ -107,7 +119,7 @@ class Orders:
         made = [c for c, *_ in taken[::-1]]
         one.form, one.liked = needed(self.params + made, self.goal), {c.name: c for c in made}
         one.places = {c.name: k / len(made) for k, c in enumerate(made)}
-        one.weight = weight(one.form, self.ground.statement)
+        one.weights = weight(one.form), degree(one.form, self.ground.statement)
         return True
 
     def last(self, one, left, freedom, taken, numbers):

@@ -77,8 +77,8 @@ class Told:
             self.lines += [p | q for p, q in pairs if self.line_of(p) & self.line_of(q)]
 
     def follow(self, names, commands):
-        """Circles that follow: a point of a mirror is equally far from both sides of it, a right angle stands on a circle over its chord. And
-        lines: that of two images meets the mirror where that of the points does."""
+        """Circles that follow: a point of a mirror is equally far from both sides of it, the foot from a centre from both ends of a chord, and a
+        right angle stands on a circle over its chord. And lines: that of two images meets the mirror where that of the points does."""
         for one, other in combinations([c for c in commands if c.word == "reflect"], 2):
             self.lines += [frozenset((one.name, other.name, m)) for m in self.on_mirror(one, other)]
         one_line_each(self.lines)
@@ -89,6 +89,9 @@ class Told:
                 self.circles += [(o, frozenset((x, a[0]))) for o in axis]
                 middles += [(m, (x, a[0])) for m in axis & chord]
                 self.circles += [(o, frozenset((f, g))) for p in a[1:] for o in axis for f in self.feet_of(o, p, a[0]) for g in self.feet_of(o, p, x)]
+            if word == "foot":
+                chord = self.line_of(frozenset((x, *a[1:])))
+                self.circles += [(x, on & chord) for o, on in self.circles if o == a[0] and len(on & chord) > 1]
         for m, (a, b) in middles:
             self.circles += [(m, frozenset((a, x))) for x in names - {a, b} if self.is_right(frozenset((x, a)), frozenset((x, b)))]
         one_circle_each(self.circles)
