@@ -1,7 +1,6 @@
 """The points of a figure in other orders. One after another is taken away, by a construction that leaves it as free beside the points that
 are left as it is in the figure; backwards these are a formulation that has all relations of the figure."""
 # SPDX-License-Identifier: Apache-2.0
-from collections import Counter
 from dataclasses import dataclass, field
 
 from canonical import Command, names_in, needed, program_text
@@ -62,14 +61,14 @@ class Orders:
 
     @staticmethod
     def in_turn(found):
-        """Orders by both weights in turn, of those with the same weights only some."""
-        alike, kept = Counter(), {}
-        for pair in zip(*(sorted(found, key=lambda one: one.weights[w]) for w in (0, 1))):
-            for one in pair:
-                alike[one.weights] += id(one) not in kept
-                if alike[one.weights] <= ALIKE:
-                    kept[id(one)] = one
-        return list(kept.values())
+        """Orders by both weights in turn; of those with the same weights only some."""
+        by_both = zip(*(sorted(found, key=lambda one: one.weights[w]) for w in (0, 1)))
+        alike, kept = {}, []
+        for one in {id(one): one for pair in by_both for one in pair}.values():
+            alike[one.weights] = alike.get(one.weights, 0) + 1
+            if alike[one.weights] <= ALIKE:
+                kept.append(one)
+        return kept
 
     def drawn(self):
         """An order with the points of the statement and some of the others: that of the program, more or less mixed."""

@@ -21,7 +21,7 @@ from figures import figure_where
 STAGES = ((0.15, 0.3), (1, 2), (5, 5))
 # How many of a round's orders are tried, and of those that came farthest in all rounds so far how many are tried again at each stage.
 ORDERS, AGAIN = 24, (3, 1)
-# How many orders go into frames, and into how many.
+# Into how many frames an order goes.
 FRAMED = 2
 # The parts of the time that frames, smaller statements, and one list of a round have.
 FRAMES_SHARE, SMALLER_SHARE, ROUND_SHARE = 1 / 8, 1 / 20, 1 / 10
@@ -71,12 +71,12 @@ class Search:
                 found.append(attempt)
 
     def round(self, ground, is_later):
-        """Orders of one ground, the lightest first, and some of them in frames; then those that came farthest of all so far, with more time."""
+        """Orders of one ground; the lightest and the farthest of them in frames; then those that came farthest of all so far, with more time."""
         some = self.fitting(iter(Orders(ground).batch(ORDERS)))
         yield some, ROUND_SHARE
-        some = [t for t in some if not t.log]
-        best = some[:1] + [t for t in sorted(some[1:], key=lambda attempt: attempt.far, reverse=True)][: FRAMED - 1]
-        framed = (attempt for t in best for attempt in frames(ground, t.own_form, "frame of an order", FRAMED))
+        some = [attempt for attempt in some if not attempt.log]
+        best = some[:1] + sorted(some[1:], key=lambda attempt: attempt.far, reverse=True)[:1]
+        framed = (attempt for one in best for attempt in frames(ground, one.own_form, "frame of an order", FRAMED))
         yield self.fitting(framed), ROUND_SHARE
         for stage, most in enumerate(AGAIN[: 1 + is_later], 1):
             yield self.farther(stage, most), ROUND_SHARE
