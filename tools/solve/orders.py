@@ -84,6 +84,7 @@ class Orders:
         style = {word: self.dice.choice((0.2, 1, 5)) / (1 + weight) for word, weight in WEIGHT.items()}
         style["untold"], style["left out"] = map(self.dice.choice, ((0, 0, 0.05), (0, 0, 0.1, 0.5)))
         style["unused"], style["mixed"] = map(self.dice.choice, ((0, 0, 0.3), (0.3, 0.5, 1, 2)))
+        style["other line"] = self.dice.choice((0.2, 0.2, 1))
         return style
 
     def varied(self, one):
@@ -141,10 +142,10 @@ class Orders:
         if liked in can:
             return liked
         untold = 0 if x in self.goal else one.style["untold"]
-        weights = [one.style[c.word] * self.own_lines(c) * (1 if self.known[c] else untold) for c in can]
+        weights = [one.style[c.word] * self.own_lines(c, one.style) * (1 if self.known[c] else untold) for c in can]
         return self.dice.choices(can, weights)[0] if any(weights) else None
 
-    def own_lines(self, command):
-        """Less for a construction by lines of which the program has other points: what it says itself is shown at once."""
+    def own_lines(self, command, style):
+        """Mostly less for a construction by lines of which the program has other points: what it says itself is shown at once."""
         pairs = [frozenset((command.args[i], command.args[j])) for i, j in ON_LINES.get(command.word, ())]
-        return 0.2 ** sum(pair not in self.facts.pairs for pair in pairs)
+        return style["other line"] ** sum(pair not in self.facts.pairs for pair in pairs)
