@@ -1,8 +1,8 @@
 //! The search for the least sample.
 
-ghost use Rattle.std.specs.Prelude.{◌≡◌, ◌^◌, ◌<◌, ℕ, suc, pos, length, unsigned_abs, All, IfOk};
-ghost use Rattle.std.specs.Prelude.{IfErr};
-ghost use Rattle.geo_poly.specs.Specialise.{IsCollected, NoneZero};
+ghost use Rattle.std.specs.Prelude.{◌≡◌, ◌*◌, ◌^◌, ◌<◌, ◌≤◌, ℕ, suc, pos, length, All, IfOk};
+ghost use Rattle.std.specs.Prelude.{IfErr, sum_by, unsigned_abs};
+ghost use Rattle.geo_poly.specs.Specialise.{IsCollected, NoneZero, degree_in};
 ghost use Rattle.geo_sample.specs.Tries.{AreMade, EndIn, all_specialised, search_tries};
 ghost use Rattle.geo_sample.specs.Tries.{tries_below};
 ghost use Rattle.geo_sample.specs.Samples.{IsLeastSample, IsLeastValue, SearchEndsIn};
@@ -83,6 +83,7 @@ fn put_least_value(
     requires collected { All IsCollected polys.old.items }
     requires nonzero { NoneZero polys.old.items }
     requires few { length polys.old.items < 2 ^ 64 }
+    requires low { sum_by (degree_in v) polys.old.items ≤ 65535 * length polys.old.items }
     ensures least { IfOk result (λ k. IsLeastValue v polys.old.items (pos k)) }
     ensures fits { IfOk result (λ k. k < 2 ^ 127) }
     ensures put { IfOk result (λ k. polys.new.items ≡ all_specialised v (pos k) polys.old.items) }

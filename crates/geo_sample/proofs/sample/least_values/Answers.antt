@@ -1,4 +1,4 @@
-use Rattle.std.proofs.Common.{◌≡◌, ℕ, ◌+◌, ◌<◌, ◌^◌, ◌∷◌, ◌++◌, [], ℤ, pos, List, suc, All, unsigned_abs, length, get_or, take, drop, sym, ap, subst, ◌∙◌, arith}
+use Rattle.std.proofs.Common.{◌≡◌, ℕ, ◌+◌, ◌*◌, ◌<◌, ◌≤◌, ◌^◌, ◌∷◌, ◌++◌, [], ℤ, pos, List, suc, All, unsigned_abs, length, sum_by, get_or, take, drop, sym, ap, subst, ◌∙◌, arith}
 use Rattle.std.proofs.lemmas.Bool.Decides.{nat_tests}
 use Rattle.std.proofs.lemmas.Result.{err_from_is_err_and}
 use Rattle.std.proofs.lemmas.List.{take_more, take-append-drop}
@@ -7,13 +7,13 @@ use Rattle.sparse_lists.proofs.Merging.{drop_at, get_or_any}
 use Rattle.geo_poly.specs.declared.variables.Var.{Var}
 use Rattle.geo_poly.specs.declared.variables.Var.TheVariants.{R}
 use Rattle.geo_poly.specs.Polynomials.{Summands}
-use Rattle.geo_poly.specs.Specialise.{IsCollected, NoneZero}
+use Rattle.geo_poly.specs.Specialise.{IsCollected, NoneZero, degree_in}
 use Rattle.geo_sample.specs.declared.errors.SampleError.{SampleError}
 use Rattle.geo_sample.specs.declared.errors.SampleError.TheVariants.{NoMemory}
 use Rattle.geo_sample.specs.Tries.{AreMade, EndIn, all_specialised, search_tries, tries_below}
 use Rattle.geo_sample.specs.Samples.{IsLeastValue, IsLeastSample, specialised_by, SearchEndsIn}
 use Rattle.geo_sample.proofs.TryEnds.{AreMade-nil, if_err}
-use Rattle.geo_sample.proofs.LeastSamples.{empty_sample, nothing_searched, short_search, collected_polynomials, collected_by}
+use Rattle.geo_sample.proofs.LeastSamples.{empty_sample, nothing_searched, short_search, collected_polynomials, collected_by, low_degrees}
 use Rattle.geo_sample.proofs.LeastSamples.{stopped_search, value_lost, more_sample, more_tries, specialised_by-append}
 use Rattle.geo_sample.proofs.sample.least_values.Goals as goal
 
@@ -56,6 +56,12 @@ returns-in_err-current-clause-stopped c =
 pub put_least_value-requires-clause-collected : goal.put_least_value-requires-clause-collected
 put_least_value-requires-clause-collected c =
     subst (All IsCollected) (sym c.loop-v.invariant.current) (collected_by c.loop-v.values.items c.args.polys.now (collected_polynomials c.args.polys.now c.are_valid.ensures.valid))
+
+pub put_least_value-requires-clause-low : goal.put_least_value-requires-clause-low
+put_least_value-requires-clause-low c =
+    let v = get_or c.args.vars.now c.loop-v.v-index none in
+    subst (λ (ps : List Summands). sum_by (degree_in v) ps ≤ 65535 * length ps) (sym c.loop-v.invariant.current)
+    (low_degrees v c.loop-v.values.items c.args.polys.now c.are_valid.ensures.valid)
 
 pub returns-in_err-value-clause-stopped : goal.returns-in_err-value-clause-stopped
 returns-in_err-value-clause-stopped c =
