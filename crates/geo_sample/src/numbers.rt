@@ -6,6 +6,7 @@ ghost use Rattle.geo_poly.specs.Specialise.{NoneZero, specialised_weight};
 ghost use Rattle.geo_sample.specs.Tries.{all_specialised};
 
 use crate::errors::SampleError;
+use crate::lists::are_valid;
 use crate::putting::{nonzero_changes, put_changes};
 use geo_base::Budget;
 use geo_points::NoMemory;
@@ -67,12 +68,16 @@ pub fn put_other(
     Ok(())
 }
 
-/// Refuses the number where the weight of a polynomial passes the bound of a norm.
+/// Refuses the number where the weight of a polynomial passes the bound of a norm. With 1 and -1 none does.
 fn test_weights(polys: &[Poly], v: Var, number: i128) -> Result<(), SampleError>
     ensures fit { IfOk result (λ u. All (λ p. specialised_weight v number p < 2 ^ 127) polys.now) }
     ensures stopped { IfErr result (λ e. (e ≡ SampleError.TooLarge Which.Norm)
         × Any (λ p. 2 ^ 127 ≤ specialised_weight v number p) polys.now) }
 {
+    prove!(are_valid(polys));
+    if number.unsigned_abs() <= 1 {
+        return Ok(());
+    }
     for poly in polys {
         if poly.is_too_heavy(v, number) {
             return Err(SampleError::TooLarge(Which::Norm));
