@@ -1,6 +1,6 @@
 //! The numbers of steps that are known already.
 
-ghost use Rattle.std.specs.Prelude.{◌≡◌, ◌<◌, IfOk, OnOk, Option, Some, length};
+ghost use Rattle.std.specs.Prelude.{◌≡◌, ◌<◌, IfOk, OnErr, OnOk, Option, Some, length};
 ghost use Rattle.fraction_poly.specs.Forms.{step_number};
 ghost use Rattle.fraction_poly.specs.Inner.Drafts.{number_tree};
 ghost use Rattle.fraction_poly.specs.Inner.Known.{IsKnownOf, IsMade};
@@ -44,6 +44,7 @@ impl KnownNumbers {
         ensures numbers { IfOk result (λ n. n ≡ capped (numbers_of (tree_of terms.now id))) }
         ensures known { IsKnownOf terms.now self.new }
         ensures made { self.new.made ≡ self.old.made }
+        ensures kept { OnErr result (self.new.measured.entries ≡ self.old.measured.entries) }
     {
         if let Some(numbers) = self.measured.get(&id.0) {
             return Ok(*numbers);

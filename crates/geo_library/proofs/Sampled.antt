@@ -15,12 +15,14 @@ use Rattle.geo_poly.specs.declared.variables.Var.TheVariants.{R, S, P, X, Y, T}
 use Rattle.geo_poly.specs.Monomials.{Powers, exponent}
 use Rattle.geo_poly.specs.PolynomialVariables.{AllVariables}
 use Rattle.geo_poly.specs.Polynomials.{Summands}
-use Rattle.geo_poly.specs.Specialise.{NoneZero, degree_in}
+use Rattle.geo_poly.specs.Specialise.{IsCollected, NoneZero, degree_in}
 use Rattle.geo_poly.specs.Values.{value, variable_value}
 use Rattle.geo_poly.specs.Variables.{var_cmp}
 use Rattle.geo_poly.proofs.EachVariable.{of-both}
 use Rattle.geo_poly.proofs.Orders.{var_order}
 use Rattle.geo_poly.proofs.SpecialisedLaws.{degree_in-from_keys}
+use Rattle.geo_sample.proofs.LeastSamples.{sample_keeps, some_sample}
+use Rattle.geo_sample.proofs.ValueLaws.{not_zero}
 use Rattle.geo_terms.specs.Constructions.{Construction}
 use Rattle.geo_terms.specs.TermBounds.{IsTermBelow}
 use Rattle.geo_terms.specs.Trees.{Tree}
@@ -29,9 +31,7 @@ use Rattle.geo_logs.specs.Samples.{parameters_from, sample_variables, value_in}
 use Rattle.geo_logs.specs.Starts.{start_of}
 use Rattle.geo_logs.proofs.SampleVariables.{EachValue, IsDistinct, IsOwn, each_own, plain_contained, sample_distinct}
 use Rattle.geo_logs.proofs.TermVariables.{term_sound}
-use Rattle.geo_library.proofs.Gathered.{IsGathered}
-use Rattle.geo_library.proofs.GatheredSamples.{gathered_start, some_numbers}
-use Rattle.geo_library.proofs.GatheredValues.{not_zero}
+use Rattle.geo_library.proofs.CollectedStarts.{collected_start}
 
 -- so many numbers, and no point
 abbrev pub numbers_alone : ℕ → Construction
@@ -106,11 +106,11 @@ pub common : (M : ℕ) (es : List Tree) → All (IsTermBelow 0 M) es → All (λ
 common M es below some =
     let vs = sample_variables (numbers_alone M) in
     let ps : List Summands = map start_of es in
-    let ordered : All IsGathered ps = All-map IsGathered start_of es (All-weaker (IsTermBelow 0 M) (λ e. IsGathered (start_of e)) (λ e h. gathered_start e) es below) in
+    let ordered : All IsCollected ps = All-map IsCollected start_of es (All-weaker (IsTermBelow 0 M) (λ e. IsCollected (start_of e)) (λ e h. collected_start e) es below) in
     let none : NoneZero ps = All-map (λ (p : Summands). p ≡ [] → ⊥) start_of es some in
-    let found = some_numbers vs ps ordered none in
+    let found = some_sample vs ps ordered none in
     let xs = found.0 in
-    let is = found.1 in
+    let is = sample_keeps vs ps xs none found.1 in
     let only : All (λ (p : Summands). (v : Var) → (Contains (map (λ (y : Var × ℤ). y.0) xs) v → ⊥) → degree_in v p ≡ 0) ps =
     All-map (λ (p : Summands). (v : Var) → (Contains (map (λ (y : Var × ℤ). y.0) xs) v → ⊥) → degree_in v p ≡ 0) start_of es
     (All-weaker (IsTermBelow 0 M) (λ e. (v : Var) → (Contains (map (λ (y : Var × ℤ). y.0) xs) v → ⊥) → degree_in v (start_of e) ≡ 0)

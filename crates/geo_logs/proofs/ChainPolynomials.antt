@@ -31,9 +31,9 @@ use Rattle.geo_poly.proofs.EachVariable.{EachIn, some_row}
 
 -- ORDER AND MONOMIALS
 -- a polynomial but for its norm
-record IsOrdered (p : Summands) : Type 0 where
-  in_order : IsCanonical term_cmp coefficients p
-  monomials : AllKeys IsMonomial p
+pub record IsOrdered (p : Summands) : Type 0 where
+  pub in_order : IsCanonical term_cmp coefficients p
+  pub monomials : AllKeys IsMonomial p
 
 with_norm : (p : Summands) → IsOrdered p → norm_of p < 2 ^ 127 → IsPolynomial p
 with_norm p h fits = record { in_order = h.in_order; monomials = h.monomials; norm_fits = fits }

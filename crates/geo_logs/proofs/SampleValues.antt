@@ -21,7 +21,7 @@ use Rattle.geo_poly.specs.Polynomials.{IsPolynomial, Summands}
 use Rattle.geo_poly.specs.Specialise.{IsCollected, NoneZero, degree_in, specialised}
 use Rattle.geo_poly.specs.Variables.{var_cmp}
 use Rattle.geo_poly.proofs.Orders.{var_order}
-use Rattle.geo_poly.proofs.SpecialisedLaws.{degree_in-from_keys}
+use Rattle.geo_poly.proofs.SpecialisedLaws.{IsCollected-polynomial, degree_in-from_keys}
 use Rattle.geo_sample.specs.Samples.{specialised_by}
 use Rattle.geo_sample.specs.Tries.{all_specialised}
 use Rattle.geo_sample.proofs.ValueLaws.{not_zero}
@@ -141,7 +141,7 @@ end_apart placed c n values ordered h e valid plain named some z =
     let contained : AllVariables (λ v. Contains (map (λ (y : Var × ℤ). y.0) values) v) e =
     subst (λ (vs : List Var). AllVariables (λ v. Contains vs v) e) (sym ordered) (of-both IsPlain (IsNamed c n) (λ v. Contains (sample_variables c) v) (plain_contained c n) e plain named) in
     let apart_there = not_zero values (e ∷ []) at_sample
-    (All-cons IsCollected e [] (record { in_order = valid.in_order; monomials = valid.monomials }) (All-nil IsCollected))
+    (All-cons IsCollected e [] (IsCollected-polynomial e valid) (All-nil IsCollected))
     (All-cons (λ (q : Summands). (v : Var) → (Contains (map (λ (y : Var × ℤ). y.0) values) v → ⊥) → degree_in v q ≡ 0) e [] (λ v lacks. lacking v (map (λ (y : Var × ℤ). y.0) values) lacks e contained)
     (All-nil (λ (q : Summands). (v : Var) → (Contains (map (λ (y : Var × ℤ). y.0) values) v → ⊥) → degree_in v q ≡ 0)))
     some (own_values values (subst IsDistinct (sym ordered) (sample_distinct c))) in

@@ -7,12 +7,13 @@ use Rattle.std.proofs.lemmas.List.Sums.{sum_by-cons}
 use Rattle.sparse_lists.specs.SparseLists.{AllKeys, IsCanonical}
 use Rattle.sparse_lists.proofs.Canonical.{amount-append, canonical_same}
 use Rattle.geo_poly.specs.declared.variables.Var.{Var}
-use Rattle.geo_poly.specs.Monomials.{Powers, IsMonomial, exponent}
+use Rattle.geo_poly.specs.Monomials.{Powers, IsMonomial, exponent, exponents}
 use Rattle.sparse_lists.specs.Coefficients.{coefficients}
 use Rattle.geo_poly.specs.Polynomials.{Summands, IsPolynomial, coefficient, norm_of, sum_of, term_cmp}
 use Rattle.geo_poly.specs.PolynomialVariables.{AllVariables}
+use Rattle.geo_poly.specs.Variables.{var_cmp}
 use Rattle.geo_poly.specs.Inner.Parts.{has, lacks}
-use Rattle.geo_poly.specs.Specialise.{degree_in, specialised, specialised_term, specialised_weight, without}
+use Rattle.geo_poly.specs.Specialise.{IsCollected, degree_in, specialised, specialised_term, specialised_weight, without}
 use Rattle.geo_poly.proofs.Orders.{term_order}
 use Rattle.sparse_lists.proofs.Coefficients.{coefficients_add}
 use Rattle.geo_poly.proofs.ReplaceTerms.{sum_of-polynomial_of}
@@ -73,11 +74,17 @@ module _ (v : Var) (z : ℤ) (p : Summands) where
         let rest = filter (lacks v) p in
         let changing = filter (has v) p in
         ap (λ (q : Summands). sum_of q (specialised v z (filter (has v) p)))
-        (sym (specialised-lacking v z rest (record { in_order = IsCanonical-filter (lacks v) p order; monomials = AllKeys-filter IsMonomial (lacks v) p monomials }) (lacking_degree p)))
+        (sym (specialised-lacking v z rest collected (lacking_degree p)))
         ∙ sum_of-polynomial_of (map (specialised_term v z) rest) (map (specialised_term v z) changing)
         ∙ canonical_same term_cmp coefficients term_order coefficients_add (map (specialised_term v z) rest ++ map (specialised_term v z) changing) (map (specialised_term v z) p)
         (λ k. amount-append term_cmp coefficients term_order coefficients_add k (map (specialised_term v z) rest)
         (map (specialised_term v z) changing) ∙ amount_split (lacks v) (specialised_term v z) k p)
+      where
+        collected : IsCollected (filter (lacks v) p)
+        collected = record {
+          in_order = IsCanonical-filter (lacks v) p order;
+          monomials = AllKeys-filter (IsCanonical var_cmp exponents) (lacks v) p (AllKeys-weaker IsMonomial (IsCanonical var_cmp exponents) (λ m g. g.in_order) p monomials);
+        }
 
   pub having_light : specialised_weight v z p < 2 ^ 127 → specialised_weight v z (filter (has v) p) < 2 ^ 127
   having_light h = omega (arith, h, sum_split (lacks v) (λ (t : Powers × ℤ). unsigned_abs t.1 * unsigned_abs z ^ exponent v t.0) p)

@@ -18,7 +18,7 @@ use Rattle.geo_poly.specs.Specialise.{degree_in, specialised, specialised_weight
 use Rattle.geo_poly.specs.Variables.{var_cmp}
 use Rattle.geo_poly.proofs.MonomialOrder.{IsEarlier-from_cmp}
 use Rattle.geo_poly.proofs.Orders.{exponents_add, monomial_back, var_order}
-use Rattle.geo_poly.proofs.SpecialisedLaws.{specialised-lacking, weight-lacking}
+use Rattle.geo_poly.proofs.SpecialisedLaws.{IsCollected-polynomial, specialised-lacking, weight-lacking}
 use Rattle.geo_poly.proofs.Told.{item, monomial_at, told-drop}
 use Rattle.geo_poly.proofs.ZeroWalks.{absent}
 
@@ -84,7 +84,7 @@ no_place p v None h parts = absent p.vars.now p.monos.now p.list.now v h parts.i
 -- any number for a variable that no monomial has changes nothing
 pub lacking_stays : (v : Var) (z : ℤ) (p q : Summands) → p ≡ q → IsPolynomial p → degree_in v p ≡ 0 → specialised v z q ≡ q
 lacking_stays v z p q e h none =
-    subst (λ (r : Summands). specialised v z r ≡ r) e (specialised-lacking v z p (record { in_order = h.in_order; monomials = h.monomials }) none)
+    subst (λ (r : Summands). specialised v z r ≡ r) e (specialised-lacking v z p (IsCollected-polynomial p h) none)
 
 pub lacking_light : (v : Var) (z : ℤ) (p q : Summands) → p ≡ q → IsPolynomial p → degree_in v p ≡ 0 → specialised_weight v z q < 2 ^ 127
 lacking_light v z p q e h none =

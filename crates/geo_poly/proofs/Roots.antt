@@ -12,11 +12,11 @@ use Rattle.ring_laws.proofs.Integers.{integers}
 use Rattle.ring_laws.proofs.Sound.{agree}
 use Rattle.ring_laws.proofs.Combination.{by_combination}
 use Rattle.ring_laws.proofs.Quotients.{cancel_factor}
-use Rattle.sparse_lists.specs.SparseLists.{AllKeys, IsBefore, amount}
+use Rattle.sparse_lists.specs.SparseLists.{AllKeys, IsBefore, IsCanonical, amount}
 use Rattle.sparse_lists.proofs.Canonical.{amount-canonical, same_list}
 use Rattle.geo_poly.specs.declared.variables.Var.{Var}
 use Rattle.geo_poly.specs.Variables.{var_cmp}
-use Rattle.geo_poly.specs.Monomials.{Powers, exponents, exponent, IsMonomial}
+use Rattle.geo_poly.specs.Monomials.{Powers, exponents, exponent}
 use Rattle.sparse_lists.specs.Coefficients.{coefficients}
 use Rattle.geo_poly.specs.Polynomials.{Summands, term_cmp}
 use Rattle.geo_poly.specs.Specialise.{without, specialised_term, specialised, degree_in, IsCollected}
@@ -197,8 +197,8 @@ module _ (n : Powers) (v : Var) where
       ∙ ap (amount term_cmp coefficients n) e
 
 -- a monomial is told by its exponent of v and its other powers
-same_monomial : (v : Var) (m n : Powers) → IsMonomial m → IsMonomial n → without v m ≡ without v n → exponent v m ≡ exponent v n → m ≡ n
-same_monomial v m n h g rest e = same_list var_cmp exponents var_order exponents_add m n h.in_order g.in_order (λ w. go w (var_cmp w v) refl)
+same_monomial : (v : Var) (m n : Powers) → IsCanonical var_cmp exponents m → IsCanonical var_cmp exponents n → without v m ≡ without v n → exponent v m ≡ exponent v n → m ≡ n
+same_monomial v m n h g rest e = same_list var_cmp exponents var_order exponents_add m n h g (λ w. go w (var_cmp w v) refl)
   where
     go : (w : Var) (o : Ordering) → var_cmp w v ≡ o → exponent w m ≡ exponent w n
     go w Less f = let n' : var_cmp w v ≡ Equal → ⊥ = λ q. let f' : Less ≡ Equal = sym f ∙ q in cc in sym (exponent-without_other v w m n') ∙ ap (exponent w) rest ∙ exponent-without_other v w n n'
@@ -207,7 +207,7 @@ same_monomial v m n h g rest e = same_list var_cmp exponents var_order exponents
     go w Equal f = subst (λ (u : Var). exponent u m ≡ exponent u n) (sym (var_order.exact w v f)) e
 
 -- no later term has the same place
-no_other : (v : Var) (m : Powers) (ts : Summands) → IsMonomial m → AllKeys IsMonomial ts → IsBefore term_cmp m ts → get_or (parts (without v m) v ts) (exponent v m) (pos 0) ≡ pos 0
+no_other : (v : Var) (m : Powers) (ts : Summands) → IsCanonical var_cmp exponents m → AllKeys (IsCanonical var_cmp exponents) ts → IsBefore term_cmp m ts → get_or (parts (without v m) v ts) (exponent v m) (pos 0) ≡ pos 0
 no_other v m [] h g b = refl
 no_other v m (t ∷ ts) h g b = go (eqb (exponent v t.0) (exponent v m)) refl (no_other v m ts h g.1 b.1)
   where

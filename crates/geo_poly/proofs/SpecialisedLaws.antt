@@ -154,7 +154,14 @@ IsPolynomial-specialised v z p h fits = record {
 pub IsCollected-specialised : (v : Var) (z : ℤ) (p : Summands) → IsCollected p → IsCollected (specialised v z p)
 IsCollected-specialised v z p h = record {
   in_order = IsCanonical-polynomial_of (map (specialised_term v z) p);
-  monomials = AllKeys-specialised IsMonomial v z p (AllKeys-weaker IsMonomial (λ m. IsMonomial (without v m)) (IsMonomial-without v) p h.monomials);
+  monomials = AllKeys-specialised (IsCanonical var_cmp exponents) v z p
+      (AllKeys-weaker (IsCanonical var_cmp exponents) (λ m. IsCanonical var_cmp exponents (without v m)) (IsCanonical-without v) p h.monomials);
+}
+
+pub IsCollected-polynomial : (p : Summands) → IsPolynomial p → IsCollected p
+IsCollected-polynomial p h = record {
+  in_order = h.in_order;
+  monomials = AllKeys-weaker IsMonomial (IsCanonical var_cmp exponents) (λ m g. g.in_order) p h.monomials;
 }
 
 -- a canonical list is no longer than the list
@@ -300,12 +307,12 @@ times_one c = *ℤ-one c
 pub times_power_zero : (c z : ℤ) → c *ℤ int_pow z 0 ≡ c
 times_power_zero c z = ap (λ k. c *ℤ k) (int_pow-zero z) ∙ times_one c
 
-terms-lacking : (v : Var) (z : ℤ) (p : Summands) → AllKeys IsMonomial p → degree_in v p ≡ 0 → map (specialised_term v z) p ≡ p
+terms-lacking : (v : Var) (z : ℤ) (p : Summands) → AllKeys (IsCanonical var_cmp exponents) p → degree_in v p ≡ 0 → map (specialised_term v z) p ≡ p
 terms-lacking v z [] h none = refl
 terms-lacking v z (t ∷ ts) h none =
     let first : exponent v t.0 ≡ 0 = omega (arith, none) in
     let same : specialised_term v z t ≡ t =
-    ap₂ (λ (m : Powers) (c : ℤ). (m, c)) (without-lacking v t.0 h.0.in_order first) (ap (λ e. t.1 *ℤ int_pow z e) first ∙ times_power_zero t.1 z) in
+    ap₂ (λ (m : Powers) (c : ℤ). (m, c)) (without-lacking v t.0 h.0 first) (ap (λ e. t.1 *ℤ int_pow z e) first ∙ times_power_zero t.1 z) in
     ap₂ (λ (u : Powers × ℤ) (us : Summands). u ∷ us) same (terms-lacking v z ts h.1 (omega (arith, none)))
 
 -- it stays as it is

@@ -7,7 +7,7 @@ use Rattle.ring_laws.specs.Fraction.{Fraction, Same, whole}
 use Rattle.sparse_lists.specs.SparseLists.{AllKeys, IsCanonical}
 use Rattle.geo_poly.specs.declared.variables.Var.{Var}
 use Rattle.geo_poly.specs.Variables.{var_cmp}
-use Rattle.geo_poly.specs.Monomials.{Powers, IsMonomial, exponent}
+use Rattle.geo_poly.specs.Monomials.{Powers, exponent, exponents}
 use Rattle.sparse_lists.specs.Coefficients.{coefficients}
 use Rattle.geo_poly.specs.Polynomials.{Summands, norm_of, polynomial_of, term_cmp, total_degree}
 use Rattle.geo_poly.specs.Values.{value}
@@ -33,10 +33,10 @@ abbrev pub degree_in : Var → Summands → ℕ
 degree_in v [] = 0
 degree_in v (t ∷ ts) = max (exponent v t.0) (degree_in v ts)
 
--- the monomials in order, each with a coefficient that is not 0: a polynomial but for the bound of its norm
+-- the monomials in order, each with a coefficient that is not 0, and each of its powers in order and not 0: a polynomial of any norm and degree
 pub record IsCollected (p : Summands) : Type 0 where
   pub in_order : IsCanonical term_cmp coefficients p
-  pub monomials : AllKeys IsMonomial p
+  pub monomials : AllKeys (IsCanonical var_cmp exponents) p
 
 -- none of the polynomials is zero
 abbrev pub NoneZero : List Summands → Type 0

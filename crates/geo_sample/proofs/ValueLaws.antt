@@ -44,8 +44,8 @@ rest_lacks t ts h v = omega (arith, h v)
 one_only : (t : Powers × ℤ) (ts : Summands) → IsCollected (t ∷ ts) → LacksAll (t ∷ ts) → ts ≡ []
 one_only t [] h none = refl
 one_only t (u ∷ us) h none =
-    let first : t.0 ≡ [] = no_powers t.0 h.monomials.0.in_order (first_lacks t (u ∷ us) none) in
-    let next : u.0 ≡ [] = no_powers u.0 h.monomials.1.0.in_order (first_lacks u us (rest_lacks t (u ∷ us) none)) in
+    let first : t.0 ≡ [] = no_powers t.0 h.monomials.0 (first_lacks t (u ∷ us) none) in
+    let next : u.0 ≡ [] = no_powers u.0 h.monomials.1.0 (first_lacks u us (rest_lacks t (u ∷ us) none)) in
     let less : term_cmp t.0 u.0 ≡ Less = h.in_order.1.0 in
     let twice : Less ≡ Equal = sym less ∙ ap (λ (m : Powers). term_cmp m u.0) (first ∙ sym next) ∙ term_order.self u.0 in
     absurd (cc)
@@ -58,7 +58,7 @@ nonzero_whole z n a h e =
 nonzero_constant : (x : Var → Fraction) (p : Summands) → IsCollected p → (p ≡ [] → ⊥) → LacksAll p → IsNonzero (value fractions x p)
 nonzero_constant x [] h some none = absurd (some refl)
 nonzero_constant x (t ∷ ts) h some none =
-    let first : t.0 ≡ [] = no_powers t.0 h.monomials.0.in_order (first_lacks t ts none) in
+    let first : t.0 ≡ [] = no_powers t.0 h.monomials.0 (first_lacks t ts none) in
     let alone : ts ≡ [] = one_only t ts h none in
     let number : t.1 ≡ pos 0 → ⊥ = λ e. nonzero e h.in_order.0 in
     subst (λ (m : Powers). IsNonzero (value fractions x ((m, t.1) ∷ ts))) (sym first)
