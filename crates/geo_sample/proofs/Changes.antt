@@ -9,11 +9,14 @@ use Rattle.geo_poly.specs.Specialise.{specialised, specialised_weight, NoneZero}
 use Rattle.geo_poly.proofs.SpecialisedLaws.{small_weight}
 use Rattle.geo_sample.specs.Tries.{all_specialised}
 
--- no weight at 0 passes the bound of a norm
+-- no weight at 0, 1 or -1 passes the bound of a norm
+pub small_fits : (v : Var) (z : ℤ) (ps : List Summands) → unsigned_abs z ≤ 1 → All IsPolynomial ps → All (λ p. specialised_weight v z p < 2 ^ 127) ps
+small_fits v z ps small h =
+    All-weaker IsPolynomial (λ p. specialised_weight v z p < 2 ^ 127)
+    (λ p valid. omega (arith, small_weight v z p small, valid.norm_fits)) ps h
+
 pub zero_fits : (v : Var) (ps : List Summands) → All IsPolynomial ps → All (λ p. specialised_weight v (pos 0) p < 2 ^ 127) ps
-zero_fits v ps h =
-    All-weaker IsPolynomial (λ p. specialised_weight v (pos 0) p < 2 ^ 127)
-    (λ p valid. let small : unsigned_abs (pos 0) ≤ 1 = omega arith in omega (arith, small_weight v (pos 0) p small, valid.norm_fits)) ps h
+zero_fits v ps h = let small : unsigned_abs (pos 0) ≤ 1 = omega arith in small_fits v (pos 0) ps small h
 
 -- THE NUMBER PUT IN
 -- one of them is zero then

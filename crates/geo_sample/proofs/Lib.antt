@@ -1,5 +1,6 @@
 pub mod TryEnds
 pub mod LeastSamples
+pub mod OneTerm
 pub mod ValueLaws
 pub mod FoundSamples
 pub mod EveryEnd

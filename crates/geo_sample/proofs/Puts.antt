@@ -1,6 +1,6 @@
 -- What some of a list of polynomials become, put in one after another.
 use Rattle.std.proofs.Common.{◌≡◌, ℕ, zero, suc, ◌+◌, ◌<◌, Some, None, List, [], ◌∷◌, ◌++◌, length, take, drop, get_or, set, ℤ, refl, sym, ap, ap₂, ◌∙◌, arith}
-use Rattle.std.specs.Prelude.{Option, unwrap_or}
+use Rattle.std.specs.Prelude.{◌↔◌, Bool, Option, unwrap_or, IfNone, IfSome, IsTrue}
 use Rattle.std.proofs.lemmas.List.{drop-set-lt, get_or-drop, map_more}
 use Rattle.geo_poly.specs.declared.variables.Var.{Var}
 use Rattle.geo_poly.specs.Polynomials.{Summands}
@@ -9,40 +9,53 @@ use Rattle.geo_sample.specs.Inner.Changes.{changed_by}
 use Rattle.geo_sample.specs.Tries.{all_specialised}
 
 -- one more that may become another
-pub changed-push : (os : List (Option Summands)) (ps : List Summands) (i : ℕ) (o : Option Summands) (p : Summands) → length os ≡ i → i < length ps → p ≡ get_or ps i p
-    → changed_by (os ++ o ∷ []) ps ≡ changed_by os ps ++ unwrap_or o p ∷ []
-changed-push os [] i o p long lt is = absurd (omega arith)
-changed-push [] (q ∷ ps) zero o p long lt is = ap (λ r. unwrap_or o r ∷ []) (sym is)
-changed-push [] (q ∷ ps) (suc i) o p long lt is = absurd (omega (arith, long))
-changed-push (n ∷ os) (q ∷ ps) zero o p long lt is = absurd (omega (arith, long))
-changed-push (n ∷ os) (q ∷ ps) (suc i) o p long lt is = ap (λ rs. unwrap_or n q ∷ rs) (changed-push os ps i o p (omega (arith, long)) (omega (arith, lt)) is)
+pub changed-push : (v : Var) (z : ℤ) (os : List (Option Summands)) (ps : List Summands) (i : ℕ) (o : Option Summands) (p : Summands) → length os ≡ i → i < length ps
+    → p ≡ get_or ps i p → changed_by v z (os ++ o ∷ []) ps ≡ changed_by v z os ps ++ unwrap_or o (specialised v z p) ∷ []
+changed-push v z os [] i o p long lt is = absurd (omega arith)
+changed-push v z [] (q ∷ ps) zero o p long lt is = ap (λ r. unwrap_or o (specialised v z r) ∷ []) (sym is)
+changed-push v z [] (q ∷ ps) (suc i) o p long lt is = absurd (omega (arith, long))
+changed-push v z (n ∷ os) (q ∷ ps) zero o p long lt is = absurd (omega (arith, long))
+changed-push v z (n ∷ os) (q ∷ ps) (suc i) o p long lt is =
+    ap (λ rs. unwrap_or n (specialised v z q) ∷ rs) (changed-push v z os ps i o p (omega (arith, long)) (omega (arith, lt)) is)
+
+-- what a change is, it is what the number makes
+after_is : (o : Option Summands) (q : Summands) → IfSome o (λ r. r ≡ q) → unwrap_or o q ≡ q
+after_is None q h = refl
+after_is (Some r) q h = h
 
 pub changed-more : (v : Var) (z : ℤ) (os : List (Option Summands)) (ps : List Summands) (i : ℕ) (o : Option Summands) (p : Summands) → length os ≡ i → i < length ps
-    → p ≡ get_or ps i p → changed_by os ps ≡ all_specialised v z (take i ps) → unwrap_or o p ≡ specialised v z p
-    → changed_by (os ++ o ∷ []) ps ≡ all_specialised v z (take (i + 1) ps)
+    → p ≡ get_or ps i p → changed_by v z os ps ≡ all_specialised v z (take i ps) → IfSome o (λ r. r ≡ specialised v z p)
+    → changed_by v z (os ++ o ∷ []) ps ≡ all_specialised v z (take (i + 1) ps)
 changed-more v z os ps i o p long lt is before one =
-    changed-push os ps i o p long lt is ∙ ap₂ (λ (rs : List Summands) (r : Summands). rs ++ r ∷ []) before (one ∙ ap (specialised v z) is)
+    changed-push v z os ps i o p long lt is
+    ∙ ap₂ (λ (rs : List Summands) (r : Summands). rs ++ r ∷ []) before (after_is o (specialised v z p) one ∙ ap (specialised v z) is)
     ∙ sym (map_more (specialised v z) ps i p lt)
 
+-- whether it is zero then, told of the change or of what is there now
+pub zero_after : (o : Option Summands) (b : Bool) (p q : Summands) → IfSome o (λ r. r ≡ q) → IfNone o ((q ≡ []) ↔ (p ≡ []))
+    → IfSome o (λ r. IsTrue b ↔ (r ≡ [])) → IfNone o (IsTrue b ↔ (p ≡ [])) → IsTrue b ↔ (q ≡ [])
+zero_after None b p q some none told now = (λ t. none.1 (now.0 t), λ e. now.1 (none.0 e))
+zero_after (Some r) b p q some none told now = (λ t. sym some ∙ told.0 t, λ e. told.1 (some ∙ e))
+
 -- with the first ones put in, as far as that place
-abbrev pub put_before : List (Option Summands) → List Summands → ℕ → List Summands
-put_before os ps i = changed_by (take i os) ps ++ drop i ps
+abbrev pub put_before : Var → ℤ → List (Option Summands) → List Summands → ℕ → List Summands
+put_before v z os ps i = changed_by v z (take i os) ps ++ drop i ps
 
-pub put-some : (os : List (Option Summands)) (ps : List Summands) (i : ℕ) (o : Option Summands) (q : Summands) → i < length os → length os ≡ length ps → o ≡ get_or os i o
-    → o ≡ Some q → set (put_before os ps i) i q ≡ put_before os ps (suc i)
-put-some [] ps i o q lt long is some = absurd (omega (arith, lt))
-put-some (n ∷ os) [] i o q lt long is some = absurd (omega (arith, long))
-put-some (n ∷ os) (p ∷ ps) zero o q lt long is some = ap (λ m. unwrap_or m p ∷ ps) (sym some ∙ is)
-put-some (n ∷ os) (p ∷ ps) (suc i) o q lt long is some =
-    ap (λ rs. unwrap_or n p ∷ rs) (put-some os ps i o q (omega (arith, lt)) (omega (arith, long)) is some)
+-- the polynomial at that place is still there
+pub put-ahead : (v : Var) (z : ℤ) (os : List (Option Summands)) (ps : List Summands) (i : ℕ) (p : Summands) → i < length os → length os ≡ length ps
+    → p ≡ get_or (put_before v z os ps i) i p → p ≡ get_or ps i p
+put-ahead v z [] ps i p lt long at = absurd (omega (arith, lt))
+put-ahead v z (n ∷ os) [] i p lt long at = absurd (omega (arith, long))
+put-ahead v z (n ∷ os) (q ∷ ps) zero p lt long at = at
+put-ahead v z (n ∷ os) (q ∷ ps) (suc i) p lt long at = put-ahead v z os ps i p (omega (arith, lt)) (omega (arith, long)) at
 
-pub put-none : (os : List (Option Summands)) (ps : List Summands) (i : ℕ) (o : Option Summands) → i < length os → length os ≡ length ps → o ≡ get_or os i o
-    → o ≡ None → put_before os ps i ≡ put_before os ps (suc i)
-put-none [] ps i o lt long is none = absurd (omega (arith, lt))
-put-none (n ∷ os) [] i o lt long is none = absurd (omega (arith, long))
-put-none (n ∷ os) (p ∷ ps) zero o lt long is none = ap (λ m. unwrap_or m p ∷ ps) (sym none ∙ is)
-put-none (n ∷ os) (p ∷ ps) (suc i) o lt long is none =
-    ap (λ rs. unwrap_or n p ∷ rs) (put-none os ps i o (omega (arith, lt)) (omega (arith, long)) is none)
+pub put-one : (v : Var) (z : ℤ) (os : List (Option Summands)) (ps : List Summands) (i : ℕ) (o : Option Summands) (p : Summands) → i < length os → length os ≡ length ps
+    → o ≡ get_or os i o → p ≡ get_or (put_before v z os ps i) i p → set (put_before v z os ps i) i (unwrap_or o (specialised v z p)) ≡ put_before v z os ps (suc i)
+put-one v z [] ps i o p lt long is at = absurd (omega (arith, lt))
+put-one v z (n ∷ os) [] i o p lt long is at = absurd (omega (arith, long))
+put-one v z (n ∷ os) (q ∷ ps) zero o p lt long is at = ap₂ (λ (m : Option Summands) (r : Summands). unwrap_or m (specialised v z r) ∷ ps) is at
+put-one v z (n ∷ os) (q ∷ ps) (suc i) o p lt long is at =
+    ap (λ rs. unwrap_or n (specialised v z q) ∷ rs) (put-one v z os ps i o p (omega (arith, lt)) (omega (arith, long)) is at)
 
 -- WHAT IS LEFT OF THE CHANGES
 

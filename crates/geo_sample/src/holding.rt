@@ -6,10 +6,11 @@ ghost use Rattle.geo_poly.specs.Specialise.{NoneZero, specialised_weight};
 ghost use Rattle.geo_sample.specs.Tries.{AreMade, EndIn, all_specialised, single_tries};
 ghost use Rattle.geo_sample.specs.Samples.{specialised_by};
 
-use crate::charges::affordable;
+use crate::charges::{affordable, affordable_at_first};
 use crate::errors::SampleError;
-use crate::lists::{are_valid, copies, none_zero};
+use crate::lists::{are_specialisations, are_valid, none_left_zero, none_zero, specialisations};
 use crate::numbers::put_other;
+use crate::specialisations::Specialisation;
 use crate::zeros::put_zero;
 use geo_base::Budget;
 use geo_poly::lists::{Polys, Values};
@@ -50,18 +51,18 @@ fn numbers_hold(
     if values.is_empty() {
         return Ok(none_zero(polys));
     }
-    affordable(polys, budget)?;
-    let mut current = copies(alloc, polys, budget)?;
+    affordable_at_first(polys, budget)?;
+    let mut current = specialisations(alloc, polys, budget)?;
     for value in values {
         put_value(alloc, &mut current, value, budget)?;
     }
-    Ok(none_zero(&current))
+    Ok(none_left_zero(&current))
 }
 
 /// A try of a value, which is put in also where a polynomial becomes zero.
 fn put_value(
     alloc: Global,
-    polys: &mut Vec<Poly>,
+    polys: &mut Vec<Specialisation>,
     value: &(Var, i128),
     budget: &mut Budget,
 ) -> Result<(), SampleError>
@@ -83,7 +84,7 @@ fn put_value(
 /// Puts the number for the variable.
 fn put_number(
     alloc: Global,
-    polys: &mut Vec<Poly>,
+    polys: &mut Vec<Specialisation>,
     v: Var,
     number: i128,
     budget: &Budget,
@@ -96,7 +97,7 @@ fn put_number(
         ⊎ ((e ≡ SampleError.TooLarge Which.Norm)
         × Any (λ p. 2 ^ 127 ≤ specialised_weight v number p) polys.old.items)) }
 {
-    prove!(are_valid(polys));
+    prove!(are_specialisations(polys));
     if number == 0 {
         put_zero(polys, v, budget);
         return Ok(());

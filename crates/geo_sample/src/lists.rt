@@ -4,6 +4,7 @@ ghost use Rattle.std.specs.Prelude.{◌≡◌, ◌↔◌, ◌≤◌, length, sum
 ghost use Rattle.geo_poly.specs.Polynomials.{IsPolynomial};
 ghost use Rattle.geo_poly.specs.Specialise.{NoneZero};
 
+use crate::specialisations::Specialisation;
 use geo_base::Budget;
 use geo_points::NoMemory;
 use geo_poly::Poly;
@@ -21,21 +22,48 @@ pub fn none_zero(polys: &[Poly]) -> bool
     true
 }
 
-/// Copies of the polynomials, for the first try of them. The budget has its charge.
-pub fn copies(alloc: Global, polys: &[Poly], budget: &Budget) -> Result<Vec<Poly>, NoMemory>
+/// Whether none of them is zero now.
+pub fn none_left_zero(polys: &[Specialisation]) -> bool
+    ensures { IsTrue result ↔ NoneZero polys.now }
+{
+    for poly in polys {
+        if poly.is_zero() {
+            return false;
+        }
+    }
+    true
+}
+
+/// The polynomials before the first try of them. The budget has its charge.
+pub fn specialisations(
+    alloc: Global,
+    polys: &[Poly],
+    budget: &Budget,
+) -> Result<Vec<Specialisation>, NoMemory>
     requires paid { sum_by length polys.now ≤ budget.now.left }
     ensures { IfOk result (λ qs. qs.items ≡ polys.now) }
 {
     let _ = budget;
-    let mut copied = Vec::with_capacity(alloc, polys.len())?;
+    let mut made = Vec::with_capacity(alloc, polys.len())?;
     for poly in polys {
-        copied.push(poly.copy(alloc)?)?;
+        made.push(Specialisation::of(alloc, poly)?)?;
     }
-    Ok(copied)
+    Ok(made)
 }
 
 /// True: each polynomial of a list is one, which contracts then know.
 pub fn are_valid(polys: &[Poly]) -> bool
+    ensures valid { All IsPolynomial polys.now }
+    ensures always { IsTrue result }
+{
+    for poly in polys {
+        prove!(poly.is_valid());
+    }
+    true
+}
+
+/// True: each of a list is a polynomial, which contracts then know.
+pub fn are_specialisations(polys: &[Specialisation]) -> bool
     ensures valid { All IsPolynomial polys.now }
     ensures always { IsTrue result }
 {

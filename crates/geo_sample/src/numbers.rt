@@ -1,27 +1,30 @@
 //! What polynomials become with a number other than 0.
 
-ghost use Rattle.std.specs.Prelude.{◌≡◌, ◌⊎◌, ◌↔◌, ◌^◌, ◌<◌, ◌≤◌, length, sum_by};
-ghost use Rattle.std.specs.Prelude.{true, false, All, Any, IfOk, IfErr, IsTrue};
+ghost use Rattle.std.specs.Prelude.{◌≡◌, ◌≢◌, ◌⊎◌, ◌↔◌, ◌^◌, ◌<◌, ◌≤◌, length, sum_by};
+ghost use Rattle.std.specs.Prelude.{true, false, unsigned_abs, All, Any, IfOk, IfErr, IsTrue};
 ghost use Rattle.geo_poly.specs.Specialise.{NoneZero, specialised_weight};
 ghost use Rattle.geo_sample.specs.Tries.{all_specialised};
 
 use crate::errors::SampleError;
+use crate::lists::are_specialisations;
 use crate::putting::{nonzero_changes, put_changes};
+use crate::specialisations::Specialisation;
 use geo_base::Budget;
 use geo_points::NoMemory;
-use geo_poly::{Poly, Var, Which};
+use geo_poly::{Var, Which};
 use std::alloc::Global;
 
 /// Puts the number for the variable where none of the polynomials is zero then, and answers whether
 /// it did. The budget has the charge.
 pub fn keep_other(
     alloc: Global,
-    polys: &mut Vec<Poly>,
+    polys: &mut Vec<Specialisation>,
     v: Var,
     number: i128,
     budget: &Budget,
 ) -> Result<bool, SampleError>
     requires nonzero { NoneZero polys.old.items }
+    requires number { unsigned_abs number ≢ 0 }
     requires paid { sum_by length polys.old.items ≤ budget.now.left }
     ensures keeps { IfOk result
         (λ b. IsTrue b ↔ NoneZero (all_specialised v number polys.old.items)) }
@@ -38,7 +41,7 @@ pub fn keep_other(
     test_weights(polys, v, number)?;
     match nonzero_changes(alloc, polys, v, number)? {
         Some(changes) => {
-            put_changes(polys, changes);
+            put_changes(alloc, polys, changes, v, number)?;
             Ok(true)
         }
         None => Ok(false),
@@ -48,7 +51,7 @@ pub fn keep_other(
 /// Puts the number for the variable. The budget has the charge.
 pub fn put_other(
     alloc: Global,
-    polys: &mut Vec<Poly>,
+    polys: &mut Vec<Specialisation>,
     v: Var,
     number: i128,
     budget: &Budget,
@@ -67,12 +70,16 @@ pub fn put_other(
     Ok(())
 }
 
-/// Refuses the number where the weight of a polynomial passes the bound of a norm.
-fn test_weights(polys: &[Poly], v: Var, number: i128) -> Result<(), SampleError>
+/// Refuses the number where the weight of a polynomial passes the bound of a norm. With 1 and -1 none does.
+fn test_weights(polys: &[Specialisation], v: Var, number: i128) -> Result<(), SampleError>
     ensures fit { IfOk result (λ u. All (λ p. specialised_weight v number p < 2 ^ 127) polys.now) }
     ensures stopped { IfErr result (λ e. (e ≡ SampleError.TooLarge Which.Norm)
         × Any (λ p. 2 ^ 127 ≤ specialised_weight v number p) polys.now) }
 {
+    prove!(are_specialisations(polys));
+    if number.unsigned_abs() <= 1 {
+        return Ok(());
+    }
     for poly in polys {
         if poly.is_too_heavy(v, number) {
             return Err(SampleError::TooLarge(Which::Norm));
@@ -82,7 +89,12 @@ fn test_weights(polys: &[Poly], v: Var, number: i128) -> Result<(), SampleError>
 }
 
 /// Puts the number for the variable of each.
-fn put_each(alloc: Global, polys: &mut Vec<Poly>, v: Var, number: i128) -> Result<(), NoMemory>
+fn put_each(
+    alloc: Global,
+    polys: &mut Vec<Specialisation>,
+    v: Var,
+    number: i128,
+) -> Result<(), NoMemory>
     requires { All (λ p. specialised_weight v number p < 2 ^ 127) polys.old.items }
     ensures { IfOk result (λ u. polys.new.items ≡ all_specialised v number polys.old.items) }
 {

@@ -1,28 +1,30 @@
-//! What polynomials become with a number other than 0, made once: to see that none is zero, and to be put in.
+//! A number other than 0 put into polynomials: what becomes of those of several terms is made once, to see that
+//! none is zero, and to be put in. A single term stays other than zero, and takes the number in place.
 
-ghost use Rattle.std.specs.Prelude.{◌≡◌, ◌↔◌, ◌^◌, ◌<◌, [], length, unwrap_or, All, IfNone, IfOk, IfSome};
-ghost use Rattle.std.specs.Prelude.{IsTrue};
-ghost use Rattle.geo_poly.specs.Polynomials.{IsPolynomial};
+ghost use Rattle.std.specs.Prelude.{◌≡◌, ◌≢◌, ◌↔◌, ◌^◌, ◌<◌, [], length, unsigned_abs, unwrap_or, All};
+ghost use Rattle.std.specs.Prelude.{IfNone, IfOk, IfSome, IsTrue};
 ghost use Rattle.geo_poly.specs.Specialise.{NoneZero, specialised, specialised_weight};
 ghost use Rattle.geo_sample.specs.Inner.Changes.{changed_by};
 ghost use Rattle.geo_sample.specs.Tries.{all_specialised};
 
-use crate::lists::are_valid;
+use crate::lists::are_specialisations;
+use crate::specialisations::Specialisation;
 use geo_points::NoMemory;
 use geo_poly::{Poly, Var};
 use std::alloc::Global;
 
-/// What each polynomial becomes with the number for the variable, or `None` where it stays; no list where one is
-/// zero then.
+/// What each polynomial becomes with the number for the variable, or `None` where the number is put into it later,
+/// which does not make it zero; no list where one is zero then.
 pub fn nonzero_changes(
     alloc: Global,
-    polys: &[Poly],
+    polys: &[Specialisation],
     v: Var,
     number: i128,
 ) -> Result<Option<Vec<Option<Poly>>>, NoMemory>
-    requires { All (λ p. specialised_weight v number p < 2 ^ 127) polys.now }
-    ensures changed { IfOk result (λ o. IfSome o
-        (λ changes. changed_by changes.items polys.now ≡ all_specialised v number polys.now)) }
+    requires number { unsigned_abs number ≢ 0 }
+    requires weight { All (λ p. specialised_weight v number p < 2 ^ 127) polys.now }
+    ensures changed { IfOk result (λ o. IfSome o (λ changes.
+        changed_by v number changes.items polys.now ≡ all_specialised v number polys.now)) }
     ensures whole { IfOk result
         (λ o. IfSome o (λ changes. length changes.items ≡ length polys.now)) }
     ensures nonzero { IfOk result
@@ -30,10 +32,10 @@ pub fn nonzero_changes(
     ensures none { IfOk result
         (λ o. IfNone o (NoneZero (all_specialised v number polys.now) → ⊥)) }
 {
-    prove!(are_valid(polys));
+    prove!(are_specialisations(polys));
     let mut changes = Vec::with_capacity(alloc, polys.len())?;
     for poly in polys {
-        let change = changed(alloc, poly, v, number)?;
+        let change = poly.changed(alloc, v, number)?;
         if is_zero_after(poly, &change) {
             return Ok(None);
         }
@@ -42,23 +44,10 @@ pub fn nonzero_changes(
     Ok(Some(changes))
 }
 
-/// What the polynomial becomes with the number for the variable, or `None` where it stays.
-fn changed(alloc: Global, poly: &Poly, v: Var, number: i128) -> Result<Option<Poly>, NoMemory>
-    requires valid { IsPolynomial poly.now }
-    requires weight { specialised_weight v number poly.now < 2 ^ 127 }
-    ensures { IfOk result (λ change. unwrap_or change poly.now ≡ specialised v number poly.now) }
-{
-    if poly.degree_in(v) == 0 {
-        return Ok(None);
-    }
-    let mut changed = poly.copy(alloc)?;
-    changed.put_number(alloc, v, number)?;
-    Ok(Some(changed))
-}
-
-/// Whether the polynomial is zero after the change.
-fn is_zero_after(poly: &Poly, change: &Option<Poly>) -> bool
-    ensures { IsTrue result ↔ (unwrap_or change.now poly.now ≡ []) }
+/// Whether the polynomial is zero after the change, or where there is none, now.
+fn is_zero_after(poly: &Specialisation, change: &Option<Poly>) -> bool
+    ensures some { IfSome change.now (λ p. IsTrue result ↔ (p ≡ [])) }
+    ensures none { IfNone change.now (IsTrue result ↔ (poly.now ≡ [])) }
 {
     match change {
         Some(changed) => changed.is_zero(),
@@ -66,14 +55,42 @@ fn is_zero_after(poly: &Poly, change: &Option<Poly>) -> bool
     }
 }
 
-/// Puts in what the polynomials become.
-pub fn put_changes(polys: &mut Vec<Poly>, mut changes: Vec<Option<Poly>>)
-    requires { length changes.items ≡ length polys.old.items }
-    ensures { polys.new.items ≡ changed_by changes.items polys.old.items }
+/// Puts in what the polynomials become, and the number for the variable of the others.
+pub fn put_changes(
+    alloc: Global,
+    polys: &mut Vec<Specialisation>,
+    mut changes: Vec<Option<Poly>>,
+    v: Var,
+    number: i128,
+) -> Result<(), NoMemory>
+    requires whole { length changes.items ≡ length polys.old.items }
+    requires weight { All (λ p. specialised_weight v number p < 2 ^ 127) polys.old.items }
+    ensures { IfOk result
+        (λ _. polys.new.items ≡ changed_by v number changes.items polys.old.items) }
 {
     for place in 0..polys.len() {
-        if let Some(changed) = changes[place].take() {
-            polys[place] = changed;
+        let change = changes[place].take();
+        put_change(alloc, &mut polys[place], change, v, number)?;
+    }
+    Ok(())
+}
+
+/// Puts in what the polynomial becomes, or the number for the variable.
+fn put_change(
+    alloc: Global,
+    poly: &mut Specialisation,
+    change: Option<Poly>,
+    v: Var,
+    number: i128,
+) -> Result<(), NoMemory>
+    requires { specialised_weight v number poly.old < 2 ^ 127 }
+    ensures { IfOk result (λ _. poly.new ≡ unwrap_or change (specialised v number poly.old)) }
+{
+    match change {
+        Some(changed) => {
+            *poly = Specialisation::sum(changed);
+            Ok(())
         }
+        None => poly.put_number(alloc, v, number),
     }
 }

@@ -1,15 +1,16 @@
 //! The search for the least sample.
 
-ghost use Rattle.std.specs.Prelude.{◌≡◌, ◌^◌, ◌<◌, ℕ, suc, pos, length, unsigned_abs, All, IfOk};
-ghost use Rattle.std.specs.Prelude.{IfErr};
-ghost use Rattle.geo_poly.specs.Specialise.{IsCollected, NoneZero};
+ghost use Rattle.std.specs.Prelude.{◌≡◌, ◌*◌, ◌^◌, ◌<◌, ◌≤◌, ℕ, suc, pos, length, All, IfOk};
+ghost use Rattle.std.specs.Prelude.{IfErr, sum_by, unsigned_abs};
+ghost use Rattle.geo_poly.specs.Specialise.{IsCollected, NoneZero, degree_in};
 ghost use Rattle.geo_sample.specs.Tries.{AreMade, EndIn, all_specialised, search_tries};
 ghost use Rattle.geo_sample.specs.Tries.{tries_below};
 ghost use Rattle.geo_sample.specs.Samples.{IsLeastSample, IsLeastValue, SearchEndsIn};
 
-use crate::charges::affordable;
+use crate::charges::affordable_at_first;
 use crate::errors::SampleError;
-use crate::lists::{are_valid, copies};
+use crate::lists::{are_valid, specialisations};
+use crate::specialisations::Specialisation;
 use crate::trying::try_natural;
 use geo_base::Budget;
 use geo_poly::lists::{Polys, Values, Vars};
@@ -56,8 +57,8 @@ fn least_values(
     if vars.is_empty() {
         return Ok(values);
     }
-    affordable(polys, budget)?;
-    let mut current = copies(alloc, polys, budget)?;
+    affordable_at_first(polys, budget)?;
+    let mut current = specialisations(alloc, polys, budget)?;
     for v in vars {
         let value = put_least_value(alloc, &mut current, *v, budget)?;
         values.push(pair(*v, value))?;
@@ -76,13 +77,14 @@ fn pair(v: Var, k: u128) -> (Var, i128)
 /// Puts the least number for the variable at which none of the polynomials is zero, and answers it.
 fn put_least_value(
     alloc: Global,
-    polys: &mut Vec<Poly>,
+    polys: &mut Vec<Specialisation>,
     v: Var,
     budget: &mut Budget,
 ) -> Result<u128, SampleError>
     requires collected { All IsCollected polys.old.items }
     requires nonzero { NoneZero polys.old.items }
     requires few { length polys.old.items < 2 ^ 64 }
+    requires low { sum_by (degree_in v) polys.old.items ≤ 65535 * length polys.old.items }
     ensures least { IfOk result (λ k. IsLeastValue v polys.old.items (pos k)) }
     ensures fits { IfOk result (λ k. k < 2 ^ 127) }
     ensures put { IfOk result (λ k. polys.new.items ≡ all_specialised v (pos k) polys.old.items) }

@@ -8,18 +8,19 @@ ghost use Rattle.geo_sample.specs.Tries.{AreMade, EndIn, all_specialised};
 
 use crate::charges::affordable;
 use crate::errors::SampleError;
-use crate::lists::are_valid;
+use crate::lists::are_specialisations;
 use crate::numbers::keep_other;
+use crate::specialisations::Specialisation;
 use crate::zeros::keep_zero;
 use geo_base::Budget;
-use geo_poly::{Poly, Var, Which};
+use geo_poly::{Var, Which};
 use std::alloc::Global;
 
 /// A try, for as many charges as the polynomials have monomials: whether none of them is zero with
 /// the number for the variable. Then it is put in; else the polynomials are what they were.
 pub fn try_number(
     alloc: Global,
-    polys: &mut Vec<Poly>,
+    polys: &mut Vec<Specialisation>,
     v: Var,
     number: i128,
     budget: &mut Budget,
@@ -46,7 +47,7 @@ pub fn try_number(
 /// A try of a natural number.
 pub fn try_natural(
     alloc: Global,
-    polys: &mut Vec<Poly>,
+    polys: &mut Vec<Specialisation>,
     v: Var,
     k: u128,
     budget: &mut Budget,
@@ -72,7 +73,7 @@ pub fn try_natural(
 /// it did.
 fn keep_number(
     alloc: Global,
-    polys: &mut Vec<Poly>,
+    polys: &mut Vec<Specialisation>,
     v: Var,
     number: i128,
     budget: &Budget,
@@ -90,7 +91,7 @@ fn keep_number(
         ⊎ ((e ≡ SampleError.TooLarge Which.Norm)
         × Any (λ p. 2 ^ 127 ≤ specialised_weight v number p) polys.old.items)) }
 {
-    prove!(are_valid(polys));
+    prove!(are_specialisations(polys));
     if number == 0 {
         return Ok(keep_zero(polys, v, budget));
     }

@@ -4,12 +4,13 @@ ghost use Rattle.std.specs.Prelude.{pos, ◌≡◌, ◌↔◌, ◌≤◌, false,
 ghost use Rattle.geo_poly.specs.Specialise.{NoneZero};
 ghost use Rattle.geo_sample.specs.Tries.{all_specialised};
 
+use crate::specialisations::Specialisation;
 use geo_base::Budget;
-use geo_poly::{Poly, Var};
+use geo_poly::Var;
 
 /// Puts 0 for the variable where none of the polynomials is zero then, and answers whether it did.
 /// The budget has the charge.
-pub fn keep_zero(polys: &mut Vec<Poly>, v: Var, budget: &Budget) -> bool
+pub fn keep_zero(polys: &mut Vec<Specialisation>, v: Var, budget: &Budget) -> bool
     requires paid { sum_by length polys.old.items ≤ budget.now.left }
     ensures keeps { IsTrue result ↔ NoneZero (all_specialised v (pos 0) polys.old.items) }
     ensures put { result ≡ true → polys.new.items ≡ all_specialised v (pos 0) polys.old.items }
@@ -23,7 +24,7 @@ pub fn keep_zero(polys: &mut Vec<Poly>, v: Var, budget: &Budget) -> bool
 }
 
 /// Whether none of the polynomials is zero with 0 for the variable.
-fn none_vanishes(polys: &[Poly], v: Var) -> bool
+fn none_vanishes(polys: &[Specialisation], v: Var) -> bool
     ensures { IsTrue result ↔ NoneZero (all_specialised v (pos 0) polys.now) }
 {
     for poly in polys {
@@ -35,7 +36,7 @@ fn none_vanishes(polys: &[Poly], v: Var) -> bool
 }
 
 /// Puts 0 for the variable of each. The budget has the charge.
-pub fn put_zero(polys: &mut Vec<Poly>, v: Var, budget: &Budget)
+pub fn put_zero(polys: &mut Vec<Specialisation>, v: Var, budget: &Budget)
     requires paid { sum_by length polys.old.items ≤ budget.now.left }
     ensures { polys.new.items ≡ all_specialised v (pos 0) polys.old.items }
 {

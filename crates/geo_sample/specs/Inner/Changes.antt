@@ -1,9 +1,11 @@
 -- What the code knows, while it puts a number into polynomials.
-use Rattle.std.specs.Prelude.{List, [], ◌∷◌, Option, unwrap_or}
+use Rattle.std.specs.Prelude.{ℤ, List, [], ◌∷◌, Option, unwrap_or}
+use Rattle.geo_poly.specs.declared.variables.Var.{Var}
 use Rattle.geo_poly.specs.Polynomials.{Summands}
+use Rattle.geo_poly.specs.Specialise.{specialised}
 
--- polynomials of which some become others
-abbrev pub changed_by : List (Option Summands) → List Summands → List Summands
-changed_by (o ∷ os) (p ∷ ps) = unwrap_or o p ∷ changed_by os ps
-changed_by (o ∷ os) [] = []
-changed_by [] ps = []
+-- polynomials of which some become others, and the number is put into the rest
+abbrev pub changed_by : Var → ℤ → List (Option Summands) → List Summands → List Summands
+changed_by v z (o ∷ os) (p ∷ ps) = unwrap_or o (specialised v z p) ∷ changed_by v z os ps
+changed_by v z (o ∷ os) [] = []
+changed_by v z [] ps = []

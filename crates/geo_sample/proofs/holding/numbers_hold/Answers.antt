@@ -34,15 +34,15 @@ returns-then-is_empty-clause-made c =
     let none = no_value c.args.values.now none_long in
     subst (λ (xs : List (Var × ℤ)). AreMade left (single_tries xs c.args.polys.now) left) (sym none) (AreMade-nil left)
 
-pub returns-in_err-affordable-clause-stopped : goal.returns-in_err-affordable-clause-stopped
-returns-in_err-affordable-clause-stopped c =
+pub returns-in_err-affordable_at_first-clause-stopped : goal.returns-in_err-affordable_at_first-clause-stopped
+returns-in_err-affordable_at_first-clause-stopped c =
     let xs = c.args.values.now in
     let ps = c.args.polys.now in
     let left = c.args.budget.now.left in
     let p = err_from_is_err_and c.from_residual.result c.from_residual.ensures.1 in
-    let spent = c.in_err-affordable.ensures.spent in
+    let spent = c.in_err-affordable_at_first.ensures.spent in
     let some : 0 < length c.args.values.now = grind (arith, nat_tests, c.if-is_empty.ensures) in
-    if_err _ c.from_residual.result c.in_err-affordable.field-0.0 p.0 p.1 p.2
+    if_err _ c.from_residual.result c.in_err-affordable_at_first.field-0.0 p.0 p.1 p.2
     (subst (λ (e : SampleError). EndIn e left (single_tries xs ps) left) (sym spent.0) (short_values xs ps left some spent.1))
 
 pub returns-in_err-put_value-clause-stopped : goal.returns-in_err-put_value-clause-stopped

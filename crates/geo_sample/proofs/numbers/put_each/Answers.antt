@@ -23,5 +23,5 @@ loop-place-preserved c =
     let ps = c.args.polys.now.items in
     let now = c.loop-place.polys.items in
     let within : c.loop-place.place < length c.args.polys.now.items = omega (arith, c.loop-place-test.true, c.len-place-end.ensures) in
-    ap (λ (q : Summands). set now i q) c.in_ok-put_number.ensures.put
+    ap (λ (q : Summands). set now i q) c.in_ok-put_number.ensures
     ∙ map_over_more (specialised c.args.v (to_z w128 (of_z w128 c.args.number))) ps now i c.index_mut.result.now within c.loop-place.invariant c.index_mut.ensures.value

@@ -1,10 +1,18 @@
-use Rattle.std.proofs.Common.{◌^◌, ◌<◌, ◌≤◌, to_z, of_z, sym, subst, ◌∙◌, arith}
+use Rattle.std.proofs.Common.{◌^◌, ◌<◌, ◌≤◌, unsigned_abs, to_z, of_z, sym, subst, ◌∙◌, arith}
 use Rattle.std.specs.Int.{w128}
 use Rattle.std.proofs.lemmas.Bool.{false≢true}
+use Rattle.std.proofs.lemmas.Int.{to_z-of_z}
 use Rattle.std.proofs.lemmas.List.Elements.{All-more}
 use Rattle.geo_poly.specs.Polynomials.{Summands}
 use Rattle.geo_poly.specs.Specialise.{specialised_weight}
+use Rattle.geo_sample.proofs.Changes.{small_fits}
 use Rattle.geo_sample.proofs.numbers.test_weights.Goals as goal
+
+pub returns-then-unsigned_abs-le1-clause-fit : goal.returns-then-unsigned_abs-le1-clause-fit
+returns-then-unsigned_abs-le1-clause-fit c =
+    let size = rw (to_z-of_z w128 c.args.number c.ranges.number) at c.unsigned_abs.ensures.value in
+    let one : unsigned_abs c.args.number ≤ 1 = omega (arith, size, c.if-unsigned_abs-le1.true) in
+    small_fits c.args.v c.args.number c.args.polys.now one c.are_specialisations.ensures.valid
 
 pub loop-poly-preserved : goal.loop-poly-preserved
 loop-poly-preserved c =

@@ -6,7 +6,7 @@ use Rattle.geo_sample.proofs.putting.nonzero_changes.Given as goal
 
 abbrev pub invariant-loop-poly : goal.invariant-loop-poly
 invariant-loop-poly l = record {
-  changed : changed_by l.changes.items l.polys ≡ all_specialised l.v l.number (take l.poly-index l.polys);
+  changed : changed_by l.v l.number l.changes.items l.polys ≡ all_specialised l.v l.number (take l.poly-index l.polys);
   long : length l.changes.items ≡ l.poly-index;
   nonzero : NoneZero (all_specialised l.v l.number (take l.poly-index l.polys));
 }

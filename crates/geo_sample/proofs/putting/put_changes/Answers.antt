@@ -1,35 +1,45 @@
-use Rattle.std.proofs.Common.{◌≡◌, suc, ◌+◌, ◌<◌, List, length, drop, set, sym, ap, subst, ◌∙◌, arith}
+use Rattle.std.proofs.Common.{◌≡◌, suc, ◌+◌, ◌^◌, ◌<◌, List, length, drop, set, get_or, to_z, of_z, sym, ap, subst, ◌∙◌, arith}
+use Rattle.std.specs.Int.{w128}
+use Rattle.std.specs.Prelude.{unwrap_or}
+use Rattle.std.proofs.lemmas.Int.{to_z-of_z}
 use Rattle.std.proofs.lemmas.List.{length-set}
 use Rattle.geo_poly.specs.Polynomials.{Summands}
-use Rattle.geo_sample.proofs.Puts.{left-next, left-same, put_before, put-none, put-some}
+use Rattle.geo_poly.specs.Specialise.{specialised, specialised_weight}
+use Rattle.geo_sample.proofs.Puts.{left-next, left-same, put_before, put-ahead, put-one}
 use Rattle.geo_sample.proofs.putting.put_changes.Goals as goal
-use Rattle.geo_sample.proofs.putting.put_changes.Goals.{in-Some, in_default}
+
+pub put_change-requires : goal.put_change-requires
+put_change-requires c =
+    let z = to_z w128 (of_z w128 c.args.number) in
+    let i = c.loop-place.place in
+    let os = c.args.changes.items in
+    let ps = c.args.polys.now.items in
+    let p = c.index_mut-in-loop-place.result.now in
+    let P : Summands → Type 0 = λ q. specialised_weight c.args.v c.args.number q < 2 ^ 127 in
+    let within : c.loop-place.place < length c.args.polys.now.items = omega (arith, c.loop-place-test.true, c.len-place-end.ensures) in
+    let inside : c.loop-place.place < length c.args.changes.items = omega (arith, within, c.requires.whole) in
+    let at = subst (λ (qs : List Summands). p ≡ get_or qs i p) c.loop-place.invariant.polys c.index_mut-in-loop-place.ensures.value in
+    let same = put-ahead c.args.v z os ps i p inside c.requires.whole at in
+    rw (to_z-of_z w128 c.args.number c.ranges.number) (subst P (sym same) (c.requires.weight i p within))
 
 pub loop-place-preserved : goal.loop-place-preserved
 loop-place-preserved c =
+    let z = to_z w128 (of_z w128 c.args.number) in
     let i = c.loop-place.place in
     let os = c.args.changes.items in
     let ps = c.args.polys.now.items in
     let now = c.loop-place.changes.items in
     let o = c.index_mut.result.now in
-    let within : c.loop-place.place < length c.args.changes.items = omega (arith, c.loop-place-test.true, c.len-place-end.ensures, c.requires) in
+    let p = c.index_mut-in-loop-place.result.now in
+    let within : c.loop-place.place < length c.args.changes.items = omega (arith, c.loop-place-test.true, c.len-place-end.ensures, c.requires.whole) in
     let is = left-same now os i o c.loop-place.invariant.left c.index_mut.ensures.value in
     let next : suc c.loop-place.place ≡ c.loop-place.place + 1 = omega arith in
-    let left = subst (λ k. drop k (set now i c.take.new.self) ≡ drop k os) next (left-next now os i c.take.new.self c.loop-place.invariant.left) in
-    let long = length-set now i c.take.new.self ∙ c.loop-place.invariant.long in
-    elim c.match-take.branch [
-      | in-Some w ↦ record {
-        polys =
-            ap (λ v. v.items) w.polys-is ∙ ap (λ (ys : List Summands). set ys i w.in-Some.changed) c.loop-place.invariant.polys
-            ∙ put-some os ps i o w.in-Some.changed within c.requires is (sym c.take.ensures.value ∙ w.in-Some.is) ∙ ap (put_before os ps) next;
-        left = left;
-        long = long;
-      }
-      | in_default w ↦ record {
-        polys =
-            ap (λ v. v.items) w.polys-is ∙ c.loop-place.invariant.polys
-            ∙ put-none os ps i o within c.requires is (sym c.take.ensures.value ∙ w.in_default.is) ∙ ap (put_before os ps) next;
-        left = left;
-        long = long;
-      }
-    ]
+    let at = subst (λ (qs : List Summands). p ≡ get_or qs i p) c.loop-place.invariant.polys c.index_mut-in-loop-place.ensures.value in
+    record {
+      polys =
+          ap (λ (q : Summands). set c.loop-place.polys.items i q) (c.in_ok-put_change.ensures ∙ ap (λ m. unwrap_or m (specialised c.args.v z p)) c.take-change.ensures.value)
+          ∙ ap (λ (qs : List Summands). set qs i (unwrap_or o (specialised c.args.v z p))) c.loop-place.invariant.polys
+          ∙ put-one c.args.v z os ps i o p within c.requires.whole is at ∙ ap (put_before c.args.v z os ps) next;
+      left = subst (λ k. drop k (set now i c.take-change.new.self) ≡ drop k os) next (left-next now os i c.take-change.new.self c.loop-place.invariant.left);
+      long = length-set now i c.take-change.new.self ∙ c.loop-place.invariant.long;
+    }

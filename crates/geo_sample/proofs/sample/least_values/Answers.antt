@@ -1,4 +1,4 @@
-use Rattle.std.proofs.Common.{◌≡◌, ℕ, ◌+◌, ◌<◌, ◌^◌, ◌∷◌, ◌++◌, [], ℤ, pos, List, suc, All, unsigned_abs, length, get_or, take, drop, sym, ap, subst, ◌∙◌, arith}
+use Rattle.std.proofs.Common.{◌≡◌, ℕ, ◌+◌, ◌*◌, ◌<◌, ◌≤◌, ◌^◌, ◌∷◌, ◌++◌, [], ℤ, pos, List, suc, All, unsigned_abs, length, sum_by, get_or, take, drop, sym, ap, subst, ◌∙◌, arith}
 use Rattle.std.proofs.lemmas.Bool.Decides.{nat_tests}
 use Rattle.std.proofs.lemmas.Result.{err_from_is_err_and}
 use Rattle.std.proofs.lemmas.List.{take_more, take-append-drop}
@@ -7,13 +7,13 @@ use Rattle.sparse_lists.proofs.Merging.{drop_at, get_or_any}
 use Rattle.geo_poly.specs.declared.variables.Var.{Var}
 use Rattle.geo_poly.specs.declared.variables.Var.TheVariants.{R}
 use Rattle.geo_poly.specs.Polynomials.{Summands}
-use Rattle.geo_poly.specs.Specialise.{IsCollected, NoneZero}
+use Rattle.geo_poly.specs.Specialise.{IsCollected, NoneZero, degree_in}
 use Rattle.geo_sample.specs.declared.errors.SampleError.{SampleError}
 use Rattle.geo_sample.specs.declared.errors.SampleError.TheVariants.{NoMemory}
 use Rattle.geo_sample.specs.Tries.{AreMade, EndIn, all_specialised, search_tries, tries_below}
 use Rattle.geo_sample.specs.Samples.{IsLeastValue, IsLeastSample, specialised_by, SearchEndsIn}
 use Rattle.geo_sample.proofs.TryEnds.{AreMade-nil, if_err}
-use Rattle.geo_sample.proofs.LeastSamples.{empty_sample, nothing_searched, short_search, collected_polynomials, collected_by}
+use Rattle.geo_sample.proofs.LeastSamples.{empty_sample, nothing_searched, short_search, collected_polynomials, collected_by, low_degrees}
 use Rattle.geo_sample.proofs.LeastSamples.{stopped_search, value_lost, more_sample, more_tries, specialised_by-append}
 use Rattle.geo_sample.proofs.sample.least_values.Goals as goal
 
@@ -35,15 +35,15 @@ returns-then-is_empty-clause-made c =
     let left = c.args.budget.now.left in
     subst (λ (xs : List (Var × ℤ)). AreMade left (search_tries xs c.args.polys.now) left) (sym c.new-values.ensures.items) (AreMade-nil left)
 
-pub returns-in_err-affordable-clause-stopped : goal.returns-in_err-affordable-clause-stopped
-returns-in_err-affordable-clause-stopped c =
+pub returns-in_err-affordable_at_first-clause-stopped : goal.returns-in_err-affordable_at_first-clause-stopped
+returns-in_err-affordable_at_first-clause-stopped c =
     let vs = c.args.vars.now in
     let ps = c.args.polys.now in
     let left = c.args.budget.now.left in
     let p = err_from_is_err_and c.from_residual.result c.from_residual.ensures.1 in
-    let spent = c.in_err-affordable.ensures.spent in
+    let spent = c.in_err-affordable_at_first.ensures.spent in
     let some : 0 < length c.args.vars.now = grind (arith, nat_tests, c.if-is_empty.ensures) in
-    if_err _ c.from_residual.result c.in_err-affordable.field-0.0 p.0 p.1 p.2
+    if_err _ c.from_residual.result c.in_err-affordable_at_first.field-0.0 p.0 p.1 p.2
     (subst (λ (e : SampleError). SearchEndsIn e vs ps left left) (sym spent.0) (short_search vs ps left (collected_polynomials ps c.are_valid.ensures.valid) c.requires some spent.1))
 
 pub returns-in_err-current-clause-stopped : goal.returns-in_err-current-clause-stopped
@@ -56,6 +56,12 @@ returns-in_err-current-clause-stopped c =
 pub put_least_value-requires-clause-collected : goal.put_least_value-requires-clause-collected
 put_least_value-requires-clause-collected c =
     subst (All IsCollected) (sym c.loop-v.invariant.current) (collected_by c.loop-v.values.items c.args.polys.now (collected_polynomials c.args.polys.now c.are_valid.ensures.valid))
+
+pub put_least_value-requires-clause-low : goal.put_least_value-requires-clause-low
+put_least_value-requires-clause-low c =
+    let v = get_or c.args.vars.now c.loop-v.v-index none in
+    subst (λ (ps : List Summands). sum_by (degree_in v) ps ≤ 65535 * length ps) (sym c.loop-v.invariant.current)
+    (low_degrees v c.loop-v.values.items c.args.polys.now c.are_valid.ensures.valid)
 
 pub returns-in_err-value-clause-stopped : goal.returns-in_err-value-clause-stopped
 returns-in_err-value-clause-stopped c =

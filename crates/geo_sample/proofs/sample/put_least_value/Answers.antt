@@ -5,7 +5,7 @@ use Rattle.geo_poly.specs.Polynomials.{Summands}
 use Rattle.geo_poly.specs.Specialise.{NoneZero}
 use Rattle.geo_sample.specs.Tries.{AreMade, EndIn, all_specialised, tries_below}
 use Rattle.geo_sample.proofs.TryEnds.{AreMade-append, if_err}
-use Rattle.geo_sample.proofs.LeastSamples.{a_try, stopped_at, one_more_lost, lost-le, total_degree_in-le}
+use Rattle.geo_sample.proofs.LeastSamples.{a_try, stopped_at, one_more_lost, lost-le}
 use Rattle.geo_sample.proofs.sample.put_least_value.Goals as goal
 
 pub try_natural-requires-clause-nonzero : goal.try_natural-requires-clause-nonzero
@@ -16,7 +16,7 @@ try_natural-requires-clause-fits c =
     omega (
       arith,
       lost-le c.args.v c.args.polys.now.items c.loop-keeps.k c.requires.collected c.requires.nonzero c.loop-keeps.invariant.lost,
-      total_degree_in-le c.args.v c.args.polys.now.items c.requires.collected,
+      c.requires.low,
       c.requires.few,
     )
 
@@ -25,7 +25,7 @@ returns-then-keeps-clause-fits c =
     omega (
       arith,
       lost-le c.args.v c.args.polys.now.items c.loop-keeps.k c.requires.collected c.requires.nonzero c.loop-keeps.invariant.lost,
-      total_degree_in-le c.args.v c.args.polys.now.items c.requires.collected,
+      c.requires.low,
       c.requires.few,
     )
 
@@ -34,7 +34,7 @@ overflow_add-k c =
     omega (
       arith,
       lost-le c.args.v c.args.polys.now.items c.loop-keeps.k c.requires.collected c.requires.nonzero c.loop-keeps.invariant.lost,
-      total_degree_in-le c.args.v c.args.polys.now.items c.requires.collected,
+      c.requires.low,
       c.requires.few,
     )
 

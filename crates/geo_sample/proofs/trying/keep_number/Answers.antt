@@ -22,7 +22,7 @@ pub returns-then-number-eq0-clause-fit : goal.returns-then-number-eq0-clause-fit
 returns-then-number-eq0-clause-fit c =
     let zero : c.args.number ≡ pos 0 = sym (to_z-of_z w128 c.args.number c.ranges.number) ∙ ap (to_z w128) c.if-number-eq0.true in
     subst (λ (z : ℤ). All (λ p. specialised_weight c.args.v z p < 2 ^ 127) c.args.polys.now.items) (sym zero)
-    (zero_fits c.args.v c.args.polys.now.items (subst (All IsPolynomial) c.deref.ensures.value c.are_valid.ensures.valid))
+    (zero_fits c.args.v c.args.polys.now.items (subst (All IsPolynomial) c.deref.ensures.value c.are_specialisations.ensures.valid))
 
 pub returns-clause-keeps : goal.returns-clause-keeps
 returns-clause-keeps c =
