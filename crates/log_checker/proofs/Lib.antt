@@ -62,6 +62,7 @@ pub mod ByText
 pub mod PassingWork
 pub mod ProgramTexts
 pub mod JudgedNext
+pub mod PassingPrograms
 pub mod JudgedAnswers
 pub mod CheckerSteps
 pub mod FirstFeeds

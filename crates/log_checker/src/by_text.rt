@@ -63,7 +63,8 @@ fn head_line(alloc: Global, bytes: &[u8]) -> Result<Option<Line>, NoMemory>
     let Some(head) = before_colon(bytes) else {
         return Ok(None);
     };
-    let mut text = Vec::from_slice(alloc, head)?;
+    let mut text = Vec::with_capacity(alloc, head.len().saturating_add(3))?;
+    text.extend_from_slice(head)?;
     text.extend_from_slice(b": 0")?;
     line_of(alloc, &text)
 }

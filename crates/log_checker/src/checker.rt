@@ -2,12 +2,11 @@
 
 use crate::accepted::Accepted;
 use crate::errors::CheckError;
-use crate::judging::{answer_at_end, judged, refusal_of_rest};
+use crate::judging::{answer_at_end, refusal_of_rest, take_line};
 use crate::state::State;
 use geo_points::NoMemory;
 use std::alloc::Global;
 use std::marker::Model;
-use std::mem;
 
 /// Judges a log line by line. It keeps no earlier line, but the program and one polynomial of the
 /// chain in work.
@@ -77,19 +76,16 @@ impl Checker {
         if let Some(error) = self.state.failure() {
             return Err(error);
         }
-        let state = mem::replace(&mut self.state, State::Failed(CheckError::NoMemory));
-        match judged(self.alloc, self.steps, self.lines + 1, state, line) {
-            Ok(state) => {
-                self.state = state;
-                self.lines += 1;
-                self.taken += line.len() as u64 + 1;
-                Ok(())
-            }
-            Err(error) => {
-                self.state = State::Failed(error);
-                Err(error)
-            }
-        }
+        take_line(
+            self.alloc,
+            self.steps,
+            self.lines + 1,
+            &mut self.state,
+            line,
+        )?;
+        self.lines += 1;
+        self.taken += line.len() as u64 + 1;
+        Ok(())
     }
 
     /// What is to be answered of the lines that were taken, where these bytes, which have no line

@@ -13,7 +13,7 @@ ghost use Rattle.log_checker.specs.Inner.Judged.{IsReachedState, IsRefusedWork, 
 ghost use Rattle.log_checker.specs.Inner.Judged.{StopsAtPiece, StopsNext, StopsThere};
 ghost use Rattle.log_checker.specs.Inner.Lines.{GoesOn};
 ghost use Rattle.log_checker.specs.Judged.{IsRead};
-ghost use Rattle.proof_log.specs.Writable.{IsWritable};
+ghost use Rattle.proof_log.specs.Writable.{HasNoLineFeed, IsWritable};
 ghost use Rattle.proof_log.specs.declared.log.Line.{Line};
 ghost use Rattle.log_checker.specs.declared.errors.CheckError.{CheckError};
 
@@ -22,22 +22,87 @@ use crate::due::Due;
 use crate::errors::CheckError;
 use crate::line_of::line_of;
 use crate::passing::state_passes;
+use crate::program_lines::push_line;
 use crate::reasons::Reason;
 use crate::state::State;
 use crate::stops::Stop;
 use crate::versions::{number_of, version_of};
 use crate::work::{Work, begun_work, work_after};
 use geo_lowering::Version;
-use geo_points::NoMemory;
 use proof_log::Line;
 use std::alloc::Global;
+use std::mem;
 
-/// The state behind the line of this number, which has these bytes.
-pub(crate) fn judged(
+/// Takes the line of this number, which has these bytes: the state becomes the one behind it, or it has failed. It
+/// stays where it is for a line that is judged by its text.
+pub(crate) fn take_line(
     alloc: Global,
     steps: u64,
     number: u64,
-    mut state: State,
+    state: &mut State,
+    line: &[u8],
+) -> Result<(), CheckError>
+    requires reached { IsReachedState steps state.old }
+    requires one_line { HasNoLineFeed line.now }
+    ensures goes { (lines : List Line) → Leaves steps lines state.old
+        → OnOk result (IsNextPiece steps lines line.now state.new) }
+    ensures refused { (lines : List Line) → Leaves steps lines state.old
+        → number ≡ suc (length lines)
+        → IfErr result (TellsStop (StopsAtPiece steps lines line.now)) }
+    ensures fails { IfErr result (λ e. state.new ≡ State.Failed e) }
+{
+    match state_passes(alloc, state, line) {
+        Ok(true) => Ok(()),
+        Ok(false) => take_read_line(alloc, steps, number, state, line),
+        Err(_) => {
+            fail(state, CheckError::NoMemory);
+            Err(CheckError::NoMemory)
+        }
+    }
+}
+
+/// The state has failed. It stands alone, since a function pays for its largest value at each call, and a state is one.
+fn fail(state: &mut State, error: CheckError)
+    ensures { state.new ≡ State.Failed error }
+{
+    *state = State::Failed(error);
+}
+
+/// The same of a line that is read.
+fn take_read_line(
+    alloc: Global,
+    steps: u64,
+    number: u64,
+    state: &mut State,
+    line: &[u8],
+) -> Result<(), CheckError>
+    requires { IsReachedState steps state.old }
+    ensures goes { (lines : List Line) → Leaves steps lines state.old
+        → OnOk result (IsNextPiece steps lines line.now state.new) }
+    ensures refused { (lines : List Line) → Leaves steps lines state.old
+        → number ≡ suc (length lines)
+        → IfErr result (TellsStop (StopsAtPiece steps lines line.now)) }
+    ensures fails { IfErr result (λ e. state.new ≡ State.Failed e) }
+{
+    let before = mem::replace(state, State::Failed(CheckError::NoMemory));
+    match judged(alloc, steps, number, before, line) {
+        Ok(after) => {
+            *state = after;
+            Ok(())
+        }
+        Err(error) => {
+            fail(state, error);
+            Err(error)
+        }
+    }
+}
+
+/// The state behind the line of this number, which has these bytes.
+fn judged(
+    alloc: Global,
+    steps: u64,
+    number: u64,
+    state: State,
     line: &[u8],
 ) -> Result<State, CheckError>
     requires { IsReachedState steps state }
@@ -46,9 +111,6 @@ pub(crate) fn judged(
     ensures refused { (lines : List Line) → Leaves steps lines state → number ≡ suc (length lines)
         → IfErr result (TellsStop (StopsAtPiece steps lines line.now)) }
 {
-    if state_passes(alloc, &mut state, line)? {
-        return Ok(state);
-    }
     let read = line_of(alloc, line)?;
     state_after(alloc, steps, number, state, read)
 }
@@ -171,15 +233,6 @@ fn behind_program(
 {
     let work = tested_program(alloc, version, program, steps)?;
     after_work(alloc, number, work, read)
-}
-
-/// Adds a line with its line feed.
-fn push_line(program: &mut Vec<u8>, text: &[u8]) -> Result<(), NoMemory>
-    ensures { OnOk result (program.new.items ≡ program.old.items ++ (text.now ++ 10 ∷ [])) }
-{
-    program.extend_from_slice(text)?;
-    program.push(b'\n')?;
-    Ok(())
 }
 
 /// The work by this version, of the program with this text. What is wrong with it is told of line 2.

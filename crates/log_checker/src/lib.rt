@@ -20,6 +20,7 @@ pub mod laws;
 mod line_of;
 mod moving;
 mod passing;
+mod program_lines;
 mod reasons;
 mod sampling;
 mod starting;

@@ -1,31 +1,40 @@
-//! Work that goes on with a line which is judged by its text.
+//! A log that goes on with a line which is judged by its text.
 
 ghost use Rattle.std.specs.Prelude.{◌≡◌, ℕ, List, IfOk};
 ghost use Rattle.log_checker.specs.Checkers.{IsAtWork};
 ghost use Rattle.log_checker.specs.Inner.ByText.{StateGoesOn, StepGoesOn, WorkGoesOn};
 ghost use Rattle.log_checker.specs.Inner.Judged.{IsReachedState};
 ghost use Rattle.log_checker.specs.Inner.Lines.{IsNamedBy};
-ghost use Rattle.proof_log.specs.Writable.{CanWritePolynomial};
+ghost use Rattle.proof_log.specs.Writable.{CanWritePolynomial, HasNoLineFeed};
 ghost use Rattle.proof_log.specs.declared.log.Line.{Line};
 
 use crate::by_text::step_by_text;
 use crate::due::Due;
 use crate::evidence::Evidence;
 use crate::known_problem::KnownProblem;
+use crate::program_lines::{push_line, said};
 use crate::state::State;
 use crate::work::Work;
 use geo_points::NoMemory;
 use geo_poly::Poly;
 use std::alloc::Global;
 
-/// Whether the line with these bytes is that of a move or of a cut which goes on. The state is then
-/// the one behind it, else as it was.
+/// Whether the line with these bytes is one of the program, or that of a move or of a cut, which goes on. The state
+/// is then the one behind it, else as it was.
 pub(crate) fn state_passes(alloc: Global, state: &mut State, bytes: &[u8]) -> Result<bool, NoMemory>
-    requires { (steps : ℕ) × IsReachedState steps state.old }
+    requires reached { (steps : ℕ) × IsReachedState steps state.old }
+    requires one_line { HasNoLineFeed bytes.now }
     ensures { IfOk result (StateGoesOn state.old bytes.now state.new) }
 {
     match state {
         State::Work(work) => work_passes(alloc, work, bytes),
+        State::Program { text, .. } => match said(bytes) {
+            Some(line) => {
+                push_line(text, line)?;
+                Ok(true)
+            }
+            None => Ok(false),
+        },
         _ => Ok(false),
     }
 }
