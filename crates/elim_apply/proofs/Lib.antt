@@ -7,6 +7,7 @@ pub mod KeptValues
 pub mod TableCharges
 pub mod SmallNumbers
 pub mod SmallShares
+pub mod KeptShares
 pub mod LineShares
 pub mod LineSizes
 pub mod NumberedRows

@@ -29,8 +29,18 @@ pub(crate) fn capped_power(base: u128, exponent: u32) -> u128
     match exponent {
         0 => 1,
         1 => base,
-        _ => base.saturating_pow(exponent),
+        _ => match small_power(base, exponent) {
+            Some(power) => power as u128,
+            None => base.saturating_pow(exponent),
+        },
     }
+}
+
+/// The power, where it is small.
+fn small_power(base: u128, exponent: u32) -> Option<u64>
+    ensures { IfSome result (λ power. power ≡ base ^ exponent) }
+{
+    small(base)?.checked_pow(exponent)
 }
 
 /// A number times a power, where all are small.

@@ -7,6 +7,7 @@ mod drafted;
 mod errors;
 mod kept_row;
 mod kept_rows;
+mod kept_shares;
 mod known_rows;
 pub mod laws;
 mod limits;

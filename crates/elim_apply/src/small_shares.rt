@@ -1,18 +1,17 @@
 //! What becomes of the monomials of a line, where all of its numbers are small, as they mostly are.
 
-ghost use Rattle.std.specs.Prelude.{◌≡◌, IfSome, List, None, Some, slice_get};
+ghost use Rattle.std.specs.Prelude.{◌≡◌, IfSome, List, None, Some};
+ghost use Rattle.elim_apply.specs.Inner.KeptShares.{joined, known_row};
 ghost use Rattle.elim_apply.specs.Inner.Shares.{IsShareOf, no_power, with_power, with_powers};
 ghost use Rattle.elim_apply.specs.Inner.Sketches.{AreKnown, sketched};
 ghost use Rattle.geo_poly.specs.declared.replacement.Row.{Row};
-ghost use Rattle.geo_poly.specs.declared.variables.Var.{Var};
 ghost use Rattle.geo_poly.specs.Monomials.{Powers};
-ghost use Rattle.geo_poly.specs.Replace.{row_of};
 ghost use Rattle.geo_poly.specs.Shared.{IsIndexOf, told_powers};
 
 use crate::capped::{small, times_power};
 use crate::numbered::NumberedRow;
 use crate::share::Share;
-use geo_poly::{FirstPower, Shared};
+use geo_poly::Shared;
 use mono_store::MonoId;
 
 /// What becomes of the first powers of a monomial.
@@ -32,7 +31,7 @@ pub(crate) struct SmallShare {
 
 impl SmallShare {
     /// That of no power.
-    fn of_one() -> SmallShare
+    pub(crate) fn of_one() -> SmallShare
         ensures { result ≡ no_power }
     {
         SmallShare {
@@ -87,8 +86,21 @@ impl SmallShare {
         Some(SmallShare { degree, ..self })
     }
 
+    /// With the powers of another.
+    pub(crate) fn joined(&self, other: &SmallShare) -> Option<SmallShare>
+        ensures { IfSome result (λ after. after ≡ joined self.now other.now) }
+    {
+        Some(SmallShare {
+            exponents: self.exponents.checked_add(other.exponents)?,
+            denominators: self.denominators.checked_add(other.denominators)?,
+            count: self.count.checked_mul(other.count)?,
+            weight: self.weight.checked_mul(other.weight)?,
+            degree: self.degree.checked_add(other.degree)?,
+        })
+    }
+
     /// The same in wide numbers.
-    fn widened(self) -> Share
+    pub(crate) fn widened(self) -> Share
         ensures { (rows : List Row) (m : Powers) → self ≡ with_powers rows m no_power
             → IsShareOf rows m 1 result }
     {
@@ -111,27 +123,27 @@ pub(crate) fn small_share_of(p: &Shared, known: &[Option<NumberedRow>], id: Mono
     let mut share = SmallShare::of_one();
     let mut rest = id;
     while let Some(first) = p.first_power(rest) {
-        share = share_with(share, known, &first)?;
+        share = share_with(share, known, first.number, first.exponent)?;
         rest = first.rest;
     }
     Some(share.widened())
 }
 
 /// The share with one more power.
-fn share_with(
+pub(crate) fn share_with(
     share: SmallShare,
     known: &[Option<NumberedRow>],
-    first: &FirstPower,
+    number: u64,
+    exponent: u32,
 ) -> Option<SmallShare>
-    ensures { (rows : List Row) (vars : List Var) → AreKnown rows vars known.now
-        → slice_get vars first.now.number ≡ Some first.now.var → IfSome result
-        (λ after. after ≡ with_power (row_of rows first.now.var) first.now.exponent share) }
+    ensures { IfSome result
+        (λ after. after ≡ with_power (known_row known.now number) exponent share) }
 {
-    let Some(entry) = known.get(first.number as usize) else {
-        return share.keeping(first.exponent);
+    let Some(entry) = known.get(number as usize) else {
+        return share.keeping(exponent);
     };
     match entry {
-        Some(row) => share.replacing(row, first.exponent),
-        None => share.keeping(first.exponent),
+        Some(row) => share.replacing(row, exponent),
+        None => share.keeping(exponent),
     }
 }

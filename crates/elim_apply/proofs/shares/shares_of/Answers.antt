@@ -1,4 +1,6 @@
-use Rattle.std.proofs.Common.{◌≡◌, [], length, subst, ap, sym, arith, rules}
+use Rattle.std.proofs.Common.{◌≡◌, Option, List, [], length, subst, ap, sym, arith, rules}
+use Rattle.elim_apply.specs.declared.numbered.NumberedRow.{NumberedRow}
+use Rattle.elim_apply.specs.Inner.KeptShares.{AreKept}
 use Rattle.elim_apply.specs.Inner.Shares.{HaveShares}
 use Rattle.elim_apply.specs.Inner.Sketches.{AreKnown, sketches}
 use Rattle.geo_poly.proofs.Told.{index_at, monomial_at}
@@ -11,10 +13,20 @@ share_of-requires-clause-index c = index_at c.args.p.now c.loop-id.id-index c.lo
 pub share_of-requires-clause-monomial : goal.share_of-requires-clause-monomial
 share_of-requires-clause-monomial c = monomial_at c.args.p.now c.loop-id.id-index c.loop-id-test.true c.requires.parts
 
+pub share_of-requires-clause-kept : goal.share_of-requires-clause-kept
+share_of-requires-clause-kept c =
+    let known : c.deref.result.now ≡ c.in_ok-known.known.items = search rules in
+    subst (λ (k : List (Option NumberedRow)). AreKept k c.args.p.now.monos.now.limits c.loop-id.kept) (sym known) c.loop-id.invariant.kept
+
 pub loop-id-init : goal.loop-id-init
 loop-id-init c =
     let none : c.in_ok-shares.shares.items ≡ [] = search rules in
-    record { within = omega arith; whole = ap length none; each = no_shares (sketches c.args.rows.now) c.args.p.now c.in_ok-shares.shares.items none }
+    record {
+      within = omega arith;
+      whole = ap length none;
+      each = no_shares (sketches c.args.rows.now) c.args.p.now c.in_ok-shares.shares.items none;
+      kept = c.in_ok-kept.ensures c.in_ok-known.known.items c.args.p.now.monos.now.limits;
+    }
 
 pub loop-id-preserved : goal.loop-id-preserved
 loop-id-preserved c =
@@ -28,7 +40,8 @@ loop-id-preserved c =
       whole = search rules;
       each = subst (HaveShares rows p) (sym c.in_ok-push.ensures.items)
           (one_more_share rows p shares c.share_of.result c.loop-id.id-index c.loop-id.invariant.whole c.loop-id-test.true c.loop-id.invariant.each
-          (c.share_of.ensures rows c.requires.powers are));
+          (c.share_of.ensures.share rows c.requires.powers are));
+      kept = subst (λ (k : List (Option NumberedRow)). AreKept k p.monos.now.limits c.share_of.new.kept) known c.share_of.ensures.kept;
     }
 
 pub returns : goal.returns

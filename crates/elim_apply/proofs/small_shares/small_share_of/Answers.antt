@@ -1,7 +1,9 @@
-use Rattle.std.proofs.Common.{sym, ap, ◌∙◌}
+use Rattle.std.proofs.Common.{Option, sym, ap, ◌∙◌}
+use Rattle.geo_poly.specs.declared.replacement.Row.{Row}
 use Rattle.geo_poly.specs.Monomials.{Powers}
 use Rattle.geo_poly.specs.Shared.{told_powers}
-use Rattle.elim_apply.specs.Inner.Shares.{with_powers}
+use Rattle.elim_apply.specs.Inner.Shares.{with_power, with_powers}
+use Rattle.elim_apply.proofs.KeptShares.{row_at_number}
 use Rattle.elim_apply.proofs.small_shares.small_share_of.Goals as goal
 
 pub loop-first-init : goal.loop-first-init
@@ -17,7 +19,10 @@ loop-first-preserved c =
     record {
       index = c.in-Some.ensures.index;
       so_far = λ rows are.
-          ap (with_powers rows (told_powers p f.rest)) (c.in_ok-share.ensures rows p.vars.now are c.in-Some.ensures.number)
+          ap (with_powers rows (told_powers p f.rest))
+          (c.in_ok-share.ensures
+          ∙ ap (λ (o : Option Row). with_power o f.exponent c.loop-first.share)
+          (row_at_number rows p.vars.now c.args.known.now f.number f.var are c.in-Some.ensures.number))
           ∙ ap (λ (m : Powers). with_powers rows m c.loop-first.share) (sym c.in-Some.ensures.power)
           ∙ c.loop-first.invariant.so_far rows are;
     }
