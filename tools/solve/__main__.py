@@ -44,7 +44,7 @@ class Solver:
     """One file: what is tried, in this order, and the answer in lines."""
 
     def __init__(self, given, text):
-        self.given, self.text, self.answer, self.found = given, text, "", None
+        self.given, self.text, self.answer, self.search, self.found = given, text, "", None, None
         self.name = given.name or given.files[0]
         self.prover = Prover(given.program, None if given.tries else given.seconds)
 
@@ -78,7 +78,7 @@ class Solver:
 
     def searched(self):
         book, statement = read(self.canonical)
-        search = Search(book, statement, self.prover, self.given.jobs, self.given.tries, self.progress())
+        search = self.search = Search(book, statement, self.prover, self.given.jobs, self.given.tries, self.progress())
         found = self.found = search.run()
         if not found:
             self.answer = open_answer(search)

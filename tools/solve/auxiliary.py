@@ -1,7 +1,7 @@
 """Auxiliary points: each rule gives commands that may stand behind a program. A command makes its point wherever its conditions hold, and
 the answer has these."""
 # SPDX-License-Identifier: Apache-2.0
-from itertools import combinations
+from itertools import combinations, product
 
 from constructions import by_foot, by_line_and_circle, by_ratio, by_two_circles, by_two_lines, by_vectors
 from residues import NoFigure, Residue, place
@@ -20,10 +20,14 @@ def middles(ground, facts):
 
 
 def triangle(ground, facts):
-    """The circumcenter, the orthocenter and the feet of the altitudes of a triangle that has a centre, and of the first free points."""
-    free = tuple(c.name for c in ground.commands if c.word == "point")[:3]
-    found = [c.args for c in ground.commands if c.word in ("circumcenter", "orthocenter")]
-    for a, b, c in dict.fromkeys(found + ([free] if len(free) == 3 else [])):
+    """The circumcenter, the orthocenter and the feet of the altitudes of a triangle that has a centre, of the first three points of a circle,
+    and of the first free points."""
+    found, on = [c.args for c in ground.commands if c.word in ("circumcenter", "orthocenter")], {}
+    for c in ground.commands:
+        if c.word == "oncircle":
+            on.setdefault(c.args[0], [c.args[1]]).append(c.name)
+    first = [points[:3] for points in (*on.values(), [c.name for c in ground.commands if c.word == "point"])]
+    for a, b, c in dict.fromkeys(found + [tuple(three) for three in first if len(three) == 3]):
         yield from (("circumcenter", (a, b, c)), ("orthocenter", (a, b, c)), ("foot", (a, b, c)), ("foot", (b, c, a)), ("foot", (c, a, b)))
 
 
@@ -32,16 +36,26 @@ def touching(ground, facts):
     And points of the tangents at feet."""
     for c in ground.commands:
         if c.word == "reflect":
-            yield from (("foot", (c.args[2], c.args[1], arm), "again") for arm in (c.name, c.args[0]))
+            yield from (("foot", (c.args[2], c.args[1], arm), True) for arm in (c.name, c.args[0]))
         if c.word == "foot":
             yield "tratio", (c.name, c.args[0], ONE)
 
 
+def perpendiculars(ground, facts):
+    """A perpendicular to AB through P without its foot: B turned a quarter about A, and moved from A to P. So the line has low degrees."""
+    for sides in facts.known.directions:
+        for p, q in product(*(sorted(map(sorted, side)) for side in sides)):
+            yield from (("tratio", (*line, ONE), x) for points, line in ((p, q), (q, p)) for x in points if x not in line)
+
+
 def mirrors(ground, facts):
-    """Where two points are mirrored in one line: the point of it that is on the line of both, and so on the line of the images."""
+    """Where two points are mirrored in one line: the point of it that is on the line of both, and so on the line of the images; by that of
+    the two which the program has. And the midpoints of points and their images."""
     for one, other in combinations([c for c in ground.commands if c.word == "reflect"], 2):
         if one.args[1:] == other.args[1:]:
-            yield "inter", (*one.args[1:], one.args[0], other.args[0])
+            images = (one.name, other.name)
+            yield "inter", (*one.args[1:], *(images if frozenset(images) in facts.pairs else (one.args[0], other.args[0])))
+    yield from (("midpoint", (c.args[0], c.name)) for c in ground.commands if c.word == "reflect")
 
 
 def chords(ground, facts):
@@ -54,18 +68,17 @@ def again(ground, facts):
     rules = (by_vectors, by_line_and_circle, by_two_lines, by_foot, by_ratio, by_two_circles)
     for x in dict.fromkeys(names_in(ground.statement.args)):
         if x in ground.at:
-            yield from ((*construction, "again") for rule in rules for construction in rule(facts, x))
+            yield from ((*construction, True) for rule in rules for construction in rule(facts, x))
 
 
 # What smaller statements and the rounds of the search take, and how many points at most.
 FOR_SMALLER = [((), 0), ((triangle,), 6), ((triangle, middles), 8), ((touching,), 12)]
-POOLS = [((), 0), ((mirrors, chords), 4), ((middles,), 6), ((touching,), 12), ((triangle,), 6), ((again,), 3)]
-POOLS += [((triangle, middles), 8), ((triangle, again), 8)]
+POOLS = [((), 0), ((mirrors, chords), 6), ((middles,), 6), ((touching,), 12), ((triangle,), 6), ((again,), 3)]
+POOLS += [((triangle, middles), 8), ((triangle, again), 8), ((perpendiculars, touching), 6)]
 
 
 def pool(ground, rules, most):
-    """Auxiliary commands of these rules, chosen at random, at most so many; none at a place where a point is, if it is not to be there
-    again. Behind some feet stands a quarter-turn."""
+    """Auxiliary commands of these rules, chosen at random, about so many; none at a place where a point is, if it is not to be there again."""
     facts, dice, found = ground.relations(), ground.dice, []
     offers = []
     for rule in rules:
@@ -74,18 +87,23 @@ def pool(ground, rules, most):
     dice.shuffle(offers)
     figure, there = Figure(), set(ground.at.values())
     figure.points, figure.numbers = dict(ground.real.points), ground.real.numbers
-    for word, args, *twice in offers:
-        if len(found) >= most:
-            break
-        command = ground.names.command(word, *args)
-        if command in found or command in ground.commands or not has_place(figure, command, there, twice):
-            continue
-        found.append(command)
-        if word == "foot" and not twice and dice.random() < 0.5:
-            turn = ground.names.command("tratio", command.name, args[1], ONE)
-            if has_place(figure, turn, there, False):
-                found.append(turn)
+    for word, args, *more in offers:
+        for command in with_next(ground, word, args, more) if len(found) < most else ():
+            if command not in found and command not in ground.commands:
+                if not has_place(figure, command, there, more == [True]):
+                    break
+                found.append(command)
     return found
+
+
+def with_next(ground, word, args, more):
+    """The command of an offer. Behind some feet stands a quarter-turn, and behind the quarter-turn of a perpendicular its other point."""
+    first = ground.names.command(word, *args)
+    yield first
+    if word == "foot" and not more and ground.dice.random() < 0.5:
+        yield ground.names.command("tratio", first.name, args[1], ONE)
+    if word == "tratio" and more and first.name not in more:
+        yield ground.names.command("translate", args[0], first.name, *more)
 
 
 def has_place(figure, command, there, twice):

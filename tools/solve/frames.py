@@ -4,9 +4,8 @@ from itertools import combinations, permutations, product
 
 from residues import along, inverse, minus, place, square
 from canonical import Command, needed, names_in
+from auxiliary import ONE
 from relations import ON_LINES
-
-ONE = ("number", 1)
 
 
 def framed(commands, names, a, b):

@@ -39,6 +39,7 @@ class Orders:
         self.needs = {c: frozenset(names_in(c.args)) for made in self.made.values() for c in made}
         own = {*ground.commands, *ground.added}
         self.known = {c: c in own or self.facts.known.says(c) for c in self.needs}
+        self.others = {c: self.other_lines(c) for c in self.needs}
         self.params = [c for c in ground.commands if c.word == "param"]
         self.freedom, self.place = Freedom(ground.real, [c.name for c in self.params] + self.facts.points), {}
         for c in ground.commands + ground.added:
@@ -138,14 +139,14 @@ class Orders:
         leaves_out = is_unused and (liked and liked.word == "point" or self.dice.random() < one.style["left out"])
         if free == 2 or leaves_out:
             return Command("point", x, ())
-        can = [c for c, fixed in self.made[x].items() if fixed == 2 - free and self.needs[c] <= there]
-        if liked in can:
+        if self.made[x].get(liked) == 2 - free and self.needs[liked] <= there:
             return liked
         untold = 0 if x in self.goal else one.style["untold"]
-        weights = [one.style[c.word] * self.own_lines(c, one.style) * (1 if self.known[c] else untold) for c in can]
-        return self.dice.choices(can, weights)[0] if any(weights) else None
+        can = [c for c, fixed in self.made[x].items() if fixed == 2 - free and (untold or self.known[c]) and self.needs[c] <= there]
+        weights = [one.style[c.word] * one.style["other line"] ** self.others[c] * (1 if self.known[c] else untold) for c in can]
+        return self.dice.choices(can, weights)[0] if can else None
 
-    def own_lines(self, command, style):
-        """Mostly less for a construction by lines of which the program has other points: what it says itself is shown at once."""
+    def other_lines(self, command):
+        """By how many lines of which the program has other points: what it says itself is shown at once."""
         pairs = [frozenset((command.args[i], command.args[j])) for i, j in ON_LINES.get(command.word, ())]
-        return style["other line"] ** sum(pair not in self.facts.pairs for pair in pairs)
+        return sum(pair not in self.facts.pairs for pair in pairs)

@@ -1,5 +1,6 @@
 """What is true of the points of a figure at random numbers, and what its commands say of them themselves."""
 # SPDX-License-Identifier: Apache-2.0
+from functools import reduce
 from itertools import combinations
 from math import gcd
 
@@ -18,24 +19,15 @@ PARALLEL = {"pratio": (((0, 1), (2, 3)),), "translate": (((0, 3), (1, 2)), ((0, 
 RATIOS = [(n, d) for d in (1, 2, 3, 4) for n in (-3, -2, -1, 1, 2, 3, 4) if gcd(n, d) == 1 and n != d]
 
 
-def one_line_each(lines):
-    """Lines that have two points in common are made one, in place."""
+def one_each(some, are_one, both):
+    """Those that are one are made one, in place."""
     size = None
-    while size != len(lines):
-        size, found = len(lines), []
-        for line in lines:
-            same = [other for other in found if len(other & line) > 1]
-            found = [other for other in found if other not in same] + [line.union(*same)]
-        lines[:] = found
-
-
-def one_circle_each(circles):
-    """Circles with one centre and a point in common are made one, in place."""
-    found = []
-    for centre, on in circles:
-        same = [c for c in found if c[0] == centre and c[1] & on]
-        found = [c for c in found if c not in same] + [(centre, on.union(*(c[1] for c in same)))]
-    circles[:] = found
+    while size != len(some):
+        size, found = len(some), []
+        for thing in some:
+            same = [other for other in found if are_one(other, thing)]
+            found = [other for other in found if other not in same] + [reduce(both, same, thing)]
+        some[:] = found
 
 
 class Told:
@@ -65,8 +57,7 @@ class Told:
         size = None
         while size != (len(self.lines), sum(map(len, self.lines)), len(self.directions)):
             size = (len(self.lines), sum(map(len, self.lines)), len(self.directions))
-            one_line_each(self.lines)
-            one_circle_each(self.circles)
+            self.merge()
             for one, other in combinations(self.directions, 2):
                 turns = [t for t in (0, 1) if any(self.is_same(p, q) for k in (0, 1) for p in one[k] for q in other[k ^ t])]
                 if turns:
@@ -81,7 +72,7 @@ class Told:
         right angle stands on a circle over its chord. And lines: that of two images meets the mirror where that of the points does."""
         for one, other in combinations([c for c in commands if c.word == "reflect"], 2):
             self.lines += [frozenset((one.name, other.name, m)) for m in self.on_mirror(one, other)]
-        one_line_each(self.lines)
+        self.merge()
         middles = [(c.name, c.args[:2]) for c in commands if c.word == "midpoint"]
         for word, x, a in commands:
             if word == "reflect":
@@ -94,7 +85,12 @@ class Told:
                 self.circles += [(x, on & chord) for o, on in self.circles if o == a[0] and len(on & chord) > 1]
         for m, (a, b) in middles:
             self.circles += [(m, frozenset((a, x))) for x in names - {a, b} if self.is_right(frozenset((x, a)), frozenset((x, b)))]
-        one_circle_each(self.circles)
+        self.merge()
+
+    def merge(self):
+        """Lines with two points in common are one, and circles with their centre and a point in common."""
+        one_each(self.lines, lambda p, q: len(p & q) > 1, frozenset.union)
+        one_each(self.circles, lambda c, d: c[0] == d[0] and c[1] & d[1], lambda c, d: (c[0], c[1] | d[1]))
 
     def on_mirror(self, one, other):
         """The points of a common mirror that are on the line of both points that are mirrored: they are on the line of the images, too."""
@@ -156,13 +152,9 @@ class Relations:
         for x in self.points:
             self.there.setdefault(at[x], []).append(x)
         self.lines, self.circles = self.true_lines(), self.true_circles()
-        self.ratios = {n * inverse(d) % PRIME: self.number(n, d) for n, d in RATIOS}
+        self.ratios = {n * inverse(d) % PRIME: ("number", n) if d == 1 else ("div", ("number", n), ("number", d)) for n, d in RATIOS}
         self.known, self.added = Told(program + added), {c.name for c in added}
         self.pairs = {frozenset((c.args[i], c.args[j])) for c in program for i, j in ON_LINES.get(c.word, ())}
-
-    @staticmethod
-    def number(n, d):
-        return ("number", n) if d == 1 else ("div", ("number", n), ("number", d))
 
     def true_lines(self):
         lines, seen = [], set()
