@@ -2,13 +2,12 @@
 # SPDX-License-Identifier: Apache-2.0
 import sys
 from functools import lru_cache
-from itertools import permutations
 from pathlib import Path
 from typing import NamedTuple
 
 TOOLS = Path(__file__).resolve().parent
 sys.path[1:1] = [str(TOOLS / "page"), str(TOOLS / "writer")]
-from commands import COMMANDS  # noqa: E402
+from forms import COMMANDS  # noqa: E402
 from language import LINE_COMMANDS, QUANTITIES, VALUED_COMMANDS, read_program  # noqa: E402
 
 
@@ -94,13 +93,13 @@ def expression_conditions(e, with_ratios):
 
 @lru_cache(maxsize=100_000)
 def command_conditions(command):
-    """The conditions of one command, by the rows of tools/writer/commands.py."""
+    """The conditions of one command, as tools/forms has them."""
     found = [c for a in command.args if not isinstance(a, str) for c in expression_conditions(a, False)]
     if command.word == "assume":
         return [command.args]
-    row = COMMANDS[command.word]
-    named = dict(zip((letter.partition(":")[0] for letter in row.form), (command.name, *command.args)))
-    return found + [(word, *(named[x] for x in letters)) for word, *letters in map(str.split, row.conditions)]
+    form = COMMANDS[command.word]
+    named = form.named(command)
+    return found + [(word, *(named[x] for x in letters)) for word, *letters in map(str.split, form.listed("conditions"))]
 
 
 def conditions(commands, statement=None):
@@ -152,17 +151,11 @@ def renamed(args, names):
 
 def spellings(command):
     """The same construction with its points in other orders, itself first."""
-    word, name, a = command
-    orders = {
-        "online": lambda: [a, a[::-1]],
-        "foot": lambda: [a, (a[0], a[2], a[1])],
-        "reflect": lambda: [a, (a[0], a[2], a[1])],
-        "cc": lambda: [a, (a[1], a[0], a[2])],
-        "circumcenter": lambda: permutations(a),
-        "orthocenter": lambda: permutations(a),
-        "inter": lambda: [p + q for s, t in ((a[:2], a[2:]), (a[2:], a[:2])) for p in (s, s[::-1]) for q in (t, t[::-1])],
-    }
-    return [Command(word, name, args) for args in orders.get(word, lambda: [a])()]
+    if command.word == "assume":
+        return [command]
+    form = COMMANDS[command.word]
+    named = form.named(command)
+    return [command, *(command._replace(args=tuple(named[letter] for letter in row.split())) for row in form.listed("same"))]
 
 
 class Names:

@@ -1,7 +1,12 @@
 # Says of an input of `cite` why its line 'with' is refused, or which line of the theorem the figure lacks:
-#   awk -v line=NUMBER|'' -f cite.awk INPUT
+#   awk -v line=NUMBER|'' -f cite.awk forms INPUT
 # SPDX-License-Identifier: Apache-2.0
 
+# what each command makes, by the letter of its new name
+FNR == NR {
+  if (/^[a-z]/ && $1 !~ /^(prove|assume)$/) makes[$1] = $2 ~ /^[ab]$/ ? "line" : $2 == "r" ? "parameter" : "point"
+  next
+}
 # the program of the log, and its points and parameters in order
 !behind && /^\| / {
   theorem[++lines] = substr($0, 3)
@@ -26,15 +31,9 @@ behind == 2 {
   gsub(/[{}\r]/, " ")
   for (k = 1; k <= NF; k++) {
     if ($k == "prove") behind = 3
-    if (behind == 2 && last ~ /^[a-z]/ && last != "assume" && last in commands && !($k in declared))
-      declared[$k] = last == "param" ? "parameter" : last ~ /^(line|parallel|perp|med)$/ ? "line" : "point"
+    if (behind == 2 && last in makes && !($k in declared)) declared[$k] = makes[last]
     last = $k
   }
-}
-BEGIN {
-  count = split("point param line parallel perp med intersec inter foot pratio tratio online lratio midpoint translate symmetric reflect " \
-    "circumcenter orthocenter centroid oncircle second cc inverse weights", word, " ")
-  for (k = 1; k <= count; k++) commands[word[k]] = 1
 }
 
 # a line of the theorem with the names of the figure

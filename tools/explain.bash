@@ -34,16 +34,20 @@ explain_refusal() {
   elif [ "$3" = 14 ]; then
     explain_count "$2"
   elif [ "$3" = 15 ]; then
-    LC_ALL=C awk -v line='' -f "$home/tools/cite.awk" "$2"
+    LC_ALL=C awk -v line='' -f "$home/tools/cite.awk" "$home/tools/forms" "$2"
   fi
 }
 
 # explain_count FILE: how many numbers the line 'at' has, and how many the program behind it wants; the words counted are reserved
 explain_count() {
   awk '
-    NR == 1 { given = NF - 1; next }
-    { sub(/%.*/, ""); gsub(/[^A-Za-z0-9_]/, " "); for (k = 1; k <= NF; k++) due += $k == "point" ? 2 : $k ~ /^(param|online|oncircle)$/ }
-    END { print "  it has " given ", and " due + 0 " are due: x and y of each point, then one for each param, online and oncircle" }' "$1"
+    FNR == NR { if (/^[a-z]/) word = $1; else if ($1 == "number:") { numbered[++count] = word; has_number[word] }; next }
+    FNR == 1 { given = NF - 1; next }
+    { sub(/%.*/, ""); gsub(/[^A-Za-z0-9_]/, " "); for (k = 1; k <= NF; k++) due += $k == "point" ? 2 : $k in has_number }
+    END {
+      for (k = 1; k <= count; k++) words = words (k == 1 ? "" : k == count ? " and " : ", ") numbered[k]
+      print "  it has " given ", and " due + 0 " are due: x and y of each point, then one for each " words
+    }' "$home/tools/forms" "$1"
 }
 
 # explain_unmet FILE NUMBER: the text of the condition, from the log of the program behind the line 'at'
@@ -165,7 +169,7 @@ explain_status() {
   told=$(meaning status "$3")
   echo "$1: ${4:+$4: }${told:-ended with status $3}"
   [ "$3" -ne 15 ] || explain_unmet "$2" "$6"
-  [ "$3" -ne 16 ] || LC_ALL=C awk -v line="$7" -f "$home/tools/cite.awk" "$2"
+  [ "$3" -ne 16 ] || LC_ALL=C awk -v line="$7" -f "$home/tools/cite.awk" "$home/tools/forms" "$2"
 }
 
 # explain NAME FILE WORD STATUS LAST-LINE

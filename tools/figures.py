@@ -11,8 +11,11 @@ import random
 import re
 import sys
 from dataclasses import dataclass
+from pathlib import Path
 
-from prover import DONE, Prover
+sys.path.append(str(Path(__file__).resolve().parent / "page"))
+from language import VALUED_COMMANDS  # noqa: E402
+from prover import DONE, Prover  # noqa: E402
 
 FIGURES = 10
 TRIES = 60
@@ -42,7 +45,7 @@ def free_names(text):
     words = re.findall(r"[A-Za-z]\w*", re.sub(r"%[^\n]*", "", text))
     made = list(zip(words, words[1:]))
     points = [name for word, name in made if word == "point"]
-    numbers = [name if word == "param" else f"t({name})" for word, name in made if word in ("param", "online", "oncircle")]
+    numbers = [name if word == "param" else f"t({name})" for word, name in made if word in VALUED_COMMANDS]
     return points, numbers
 
 

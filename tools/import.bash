@@ -12,7 +12,7 @@ choices=()
 # behind the first megabyte is not read
 may_be_foreign() {
   head -c 1048577 -- "$1" | LC_ALL=C awk -v forms="$home/tools/forms" '
-    BEGIN { while ((getline line <forms) > 0) if (split(line, word, " ") && word[1] !~ /^#/) ours[word[1]] = 1 }
+    BEGIN { while ((getline line <forms) > 0) if (line ~ /^[a-z]/ && split(line, word, " ")) ours[word[1]] = 1 }
     NR == 1 && /^(PK|\037\213|BZh|\357\273\277)|^[ \t]*</ { found = 1; exit }
     /^[ \t]*[a-z]/ && !($1 in ours) { found = 1; exit }
     END { exit !found }'

@@ -2,7 +2,7 @@
 # Each line is a remark of docs/GUIDE.md, "When it stops", that fits this program; there are at most three.
 # SPDX-License-Identifier: Apache-2.0
 FNR == NR {
-  if ($1 !~ /^(#|prove|assume)/) is_command[$1] = 1
+  if (/^[a-z]/ && $1 !~ /^(prove|assume)$/) is_command[$1] = 1
   next
 }
 {

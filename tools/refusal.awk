@@ -32,9 +32,10 @@ function pop() {
   if (!sub(/^[^ ]+ /, "", need)) need = ""
 }
 
-function declared_kind(word) {
-  if (word == "param") return "a parameter"
-  return word ~ /^(line|parallel|perp|med)$/ ? "a line" : "a point"
+# what a command makes, by the letter of its new name
+function declared_kind(word,   part) {
+  split(form[word], part, " ")
+  return part[2] ~ /^[ab]$/ ? "a line" : part[2] == "r" ? "a parameter" : "a point"
 }
 
 function take_expression(token) {
@@ -144,7 +145,7 @@ function show(text, column,   from, before) {
 }
 
 FNR == NR {
-  if (/^#/ || NF == 0) next
+  if (!/^[a-z]/) next
   if ($1 == "prove" || $1 == "assume") {
     form[$1] = $1
     form[$1 " " $2] = $0

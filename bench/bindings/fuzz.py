@@ -16,12 +16,13 @@ import struct
 import subprocess
 import sys
 
-EXAMPLES = pathlib.Path(__file__).resolve().parents[2] / "examples"
-WORDS = (
-    "point param line parallel perp med intersec inter foot pratio tratio online lratio midpoint translate symmetric reflect "
-    "circumcenter orthocenter centroid oncircle second cc inverse equal collinear perpendicular identical same_length harmonic "
-    "concyclic signed_area3 pythagoras_difference3 sratio neg sum sub mult div prove { } A B C D X r 0 1 2 -7 % 170141183460469231731687303715884105727"
-).split()
+ROOT = pathlib.Path(__file__).resolve().parents[2]
+EXAMPLES = ROOT / "examples"
+sys.path.append(str(ROOT / "tools/page"))
+from language import FORMS, OPERANDS, QUANTITIES  # noqa: E402
+
+OTHERS = "prove assume { } A B C D X r 0 1 2 -7 % 170141183460469231731687303715884105727".split()
+WORDS = [*dict.fromkeys(word.rstrip("!") for word in FORMS), *QUANTITIES, *OPERANDS, *OTHERS]
 LINES = ["end", "verdict proved", "verdict false 1", "coords : 0", "point 3 : 0", "start : 0", "cut 2 : +1", "sample", "goal 1 collinear A B C"]
 WHOLE = 2**64 - 1
 

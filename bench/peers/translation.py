@@ -6,17 +6,17 @@ in directly, but where a coordinate would have many terms it is an unknown with 
 and so on, as they come: of param and online commands, the inverses of divisors, the ratios of segments. In the frame `full` each free point has two coordinates; in the frame `fixed` the first two are (0, 0) and (1, 0), which leaves
 out that they coincide.
 """
+import functools
 import math
 from dataclasses import dataclass, field
 from fractions import Fraction
 
 import theorems  # noqa: F401, which says where the next modules are
-from commands import COMMANDS
-from formulas import helper
+from forms import COMMANDS
+from formulas import function, functions
 from language import read_program
 from polynomials import Polynomial, integer, variable_of
 
-along, cross, dot, minus, turned = map(helper, ("along", "cross", "dot", "minus", "turned"))
 FRAMES = ("full", "fixed")
 MANY = 8
 
@@ -55,46 +55,37 @@ def is_constant(polynomial):
     return all(not monomial for monomial in polynomial.terms)
 
 
-def square(p, q):
-    v = minus(q, p)
-    return dot(v, v)
-
-
 def part(a, b):
     """The number a / b."""
     return integer(Fraction(a, b))
 
 
-def mean(*points):
-    """The centre of points."""
-    share = part(1, len(points))
-    return tuple(share * sum((p[k] for p in points[1:]), points[0][k]) for k in (0, 1))
+@functools.cache
+def formulas_here():
+    """The functions of tools/forms and tools/page/formulas over polynomials, which are divided by whole numbers alone."""
+    return functions(divided=lambda above, below: part(1, below) * above)
 
 
-# What each command asks of its new point X, by the points behind it; docs/LANGUAGE.md has the same in its column "Met where".
-EQUATIONS = {
-    "inter": lambda x, a, b, c, d: [cross(minus(b, a), minus(x, a)), cross(minus(d, c), minus(x, c))],
-    "foot": lambda x, p, a, b: [cross(minus(b, a), minus(x, a)), dot(minus(x, p), minus(b, a))],
-    "reflect": lambda x, a, p, q: [cross(minus(q, p), minus(mean(a, x), p)), dot(minus(x, a), minus(q, p))],
-    "circumcenter": lambda x, a, b, c: [square(x, a) - square(x, b), square(x, a) - square(x, c)],
-    "orthocenter": lambda x, a, b, c: [dot(minus(x, a), minus(b, c)), dot(minus(x, b), minus(a, c))],
-    "oncircle": lambda x, o, a: [square(o, x) - square(o, a)],
-    "second": lambda x, a, b, o: [cross(minus(b, a), minus(x, a)), square(o, x) - square(o, a)],
-    "cc": lambda x, o, p, a: [square(o, x) - square(o, a), square(p, x) - square(p, a)],
-    "inverse": lambda x, p, o, a: [cross(minus(p, o), minus(x, o)), dot(minus(x, o), minus(p, o)) - square(o, a)],
-}
-# Where the point of another command is, by the points and numbers behind it.
-PLACES = {
-    "midpoint": mean,
-    "centroid": mean,
-    "symmetric": lambda a, o: along(o, 1, minus(o, a)),
-    "translate": lambda a, b, c: along(c, 1, minus(b, a)),
-    "pratio": lambda w, u, v, r: along(w, r, minus(v, u)),
-    "lratio": lambda a, b, r: along(a, r, minus(b, a)),
-    "online": lambda a, b, t: along(a, t, minus(b, a)),
-    "tratio": lambda u, v, r: along(u, r, turned(minus(v, u))),
-    "weights": lambda a, b, c, r, s: along(along(a, r, minus(b, a)), s, minus(c, a)),
-}
+def here(word, kind):
+    return formulas_here()[word, kind]
+
+
+along, cross, dot, minus, turned, middle = (here(word, "helper") for word in ("along", "cross", "dot", "minus", "turned", "middle"))
+
+
+@functools.cache
+def equations_of(word):
+    """What a command asks of its new point X, by this and the points behind it: none where the point is put in by its place."""
+    form = COMMANDS[word]
+    helpers = {name: value for (name, kind), value in formulas_here().items() if kind == "helper"}
+    return [function(form.letters, formula, helpers) for formula in form.listed("met")]
+
+
+def square(p, q):
+    v = minus(q, p)
+    return dot(v, v)
+
+
 CONDITIONS = {
     "different": square,
     "not_collinear": lambda a, b, c: cross(minus(b, a), minus(c, a)),
@@ -113,7 +104,7 @@ STATEMENTS = {
     "parallel": lambda a, b, c, d: [cross(minus(b, a), minus(d, c))],
     "perpendicular": lambda a, b, c, d: [dot(minus(b, a), minus(d, c))],
     "identical": lambda a, b: list(minus(a, b)),
-    "midpoint": lambda m, a, b: list(minus(m, mean(a, b))),
+    "midpoint": lambda m, a, b: list(minus(m, middle(a, b))),
     "same_length": lambda a, b, c, d: [square(a, b) - square(c, d)],
     "concyclic": lambda a, b, c, d: [on_one_circle(a, b, c, d)],
 }
@@ -166,37 +157,33 @@ class Translation:
 
     def line(self, word, args):
         """A point of the line, and its direction."""
-        if word in ("line", "med"):
-            a, b = (self.points[name] for name in args)
-            return (a, minus(b, a)) if word == "line" else (mean(a, b), turned(minus(b, a)))
-        direction = self.lines[args[1]][1]
-        return self.points[args[0]], direction if word == "parallel" else turned(direction)
+        return here(word, "command")(*map(self.argument, args))
+
+    def argument(self, argument):
+        """The point, the line or the number behind a command's word."""
+        if isinstance(argument, str):
+            return self.points[argument] if argument in self.points else self.lines[argument]
+        return self.value(argument)
 
     def point(self, word, args):
         if word == "point":
             return self.fixed.pop(0) if self.fixed else self.coordinates(self.theorem.free)
-        if word == "intersec":
-            x = self.coordinates(self.theorem.made)
-            self.theorem.equations += [cross(direction, minus(x, p)) for p, direction in (self.lines[name] for name in args)]
-            return x
-        values = [self.points[arg] if isinstance(arg, str) else self.value(arg) for arg in args]
-        if word in PLACES:
-            place = PLACES[word](*values, *([self.number(self.theorem.free)] if word == "online" else []))
+        values, equations, place = list(map(self.argument, args)), equations_of(word), None
+        if not equations:
+            own = [self.number(self.theorem.free)] if "number" in COMMANDS[word].said else []
+            place = here(word, "command")(*values, *own)
             if max(map(len, place)) <= MANY:
                 return place
-            x = self.coordinates(self.theorem.made)
-            self.theorem.equations += minus(x, place)
-            return x
         x = self.coordinates(self.theorem.made)
-        self.theorem.equations += EQUATIONS[word](x, *values)
+        self.theorem.equations += minus(x, place) if place else [equation(x, *values) for equation in equations]
         return x
 
     # Conditions
 
     def add_conditions(self, word, names):
         """The conditions of a command, with these names in the places of its letters."""
-        named = {letter.partition(":")[0]: name for letter, name in zip(COMMANDS[word].form, names)}
-        for condition in COMMANDS[word].conditions:
+        named = dict(zip(COMMANDS[word].letters, names))
+        for condition in COMMANDS[word].listed("conditions"):
             kind, *letters = condition.split()
             self.add_condition([kind, *(named[letter] for letter in letters)])
 

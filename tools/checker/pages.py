@@ -47,6 +47,11 @@ class Command:
         self.steps, self.pair, self.given_pairs = [], [], {}
         self.first_steps = None
 
+    @property
+    def has_number(self):
+        """Whether it takes a number of its own, t: a parameter is one, and has no points."""
+        return self.letters == ["r"] or any("t" in arguments.split(",") for _, _, arguments in self.steps)
+
     def steps_of(self, version):
         return self.first_steps if version == 1 and self.first_steps else self.steps
 

@@ -10,7 +10,6 @@ MOST = 2**127 - 1
 NUMBER = re.compile("0|-?[1-9][0-9]*")
 QUANTITIES = {"signed_area3": (3, area), "pythagoras_difference3": (3, difference), "sratio": (4, ratio)}
 OPERANDS = {"neg": 1, "sum": 2, "sub": 2, "mult": 2, "div": 2}
-HAVE_NUMBERS = ("param", "online", "oncircle")
 # How many points a step names; its numbers stand behind them.
 STEP_POINTS = {"INTER": 4, "FOOT": 3, "PRATIO": 3, "TRATIO": 2, "WEIGHTS": 3}
 DEPTH = 128
@@ -133,7 +132,7 @@ class Program:
         self.counted += command.counted
         if self.counted > POINTS:
             refuse()
-        if word in HAVE_NUMBERS:
+        if command.has_number:
             known["t"] = parameter(self.numbers), integer(1)
             self.numbers += 1
         self.make(command, known)

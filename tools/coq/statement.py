@@ -6,18 +6,17 @@ from pathlib import Path
 TOOLS = Path(__file__).parent.parent
 sys.path[1:1] = [str(TOOLS / "page"), str(TOOLS / "writer")]
 
-from commands import COMMANDS, HAVE_NUMBERS  # noqa: E402
+from forms import COMMANDS  # noqa: E402
 from language import read_program  # noqa: E402
 
-# Words that no variable may be: Coq's own, those of coq/Plane.v that a statement may have, and those of a made file's proofs.
+# Words that no variable may be: Coq's own, those of coq/Plane.v that a statement may have, and those of a made file's proofs. The words of
+# commands are no names of a program either.
 KEYWORDS = set("""_ Axiom CoFixpoint Definition Fixpoint Hypothesis Parameter Prop SProp Set Theorem Type Variable as at by cofix else end exists
 exists2 fix for forall fun if IF in let match mod return then using where with""".split())
 TAKEN = set("""K field car zero one add mul sub opp div inv num point At px py cross dot dist2 signed_area3 pythagoras_difference3 sratio
 different not_collinear not_parallel collinear parallel perpendicular identical is_midpoint same_length norm2 minor concyclic has_ratio
-harmonic line through along upright bisector direction on crossing intersec inter foot pratio tratio online lratio midpoint translate
-symmetric middle reflect circumcenter orthocenter centroid oncircle second cc inverse weights figure statement rationals reals
-text about_text said_is placing true_in_words impossible_in_words""".split())
-LINES = {"line": "through", "parallel": "along", "perp": "upright", "med": "bisector"}
+harmonic through along upright bisector direction on crossing middle figure statement rationals reals text about_text said_is placing
+true_in_words impossible_in_words""".split())
 SIGNS = {"sum": "+", "sub": "-", "mult": "*", "div": "/"}
 
 
@@ -109,20 +108,20 @@ class Statement:
         if command.word == "assume":
             assumed = command.args[0]
             return self.require([(assumed.word, *assumed.args)])
+        form = COMMANDS[command.word]
         shown = [self.argument(argument) for argument in command.args]
         if command.is_line:
-            self.lines[command.name] = f"({' '.join([LINES[command.word], *shown])})"
+            self.lines[command.name] = f"({' '.join([form.said['coq'], *shown])})"
         if command.is_point:
             self.points.append(command.name)
             shown.insert(0, self.new_name(command.name))
-        if command.word in HAVE_NUMBERS:
+        if "number" in form.said:
             self.numbers.append((command.name, self.number_name(command)))
             shown.append(self.numbers[-1][1])
         if command.is_point and command.word != "point":
             self.figure.append((" ".join([command.word, *shown]), ""))
-        form = COMMANDS[command.word]
-        letters = dict(zip((letter.split(":")[0] for letter in form.form), [command.name, *command.args]))
-        conditions = [text.split() for text in form.conditions]
+        letters = form.named(command)
+        conditions = [text.split() for text in form.listed("conditions")]
         self.require(self.of_expressions(a for a in command.args if isinstance(a, tuple)))
         self.require([(word, *(letters[letter] for letter in rest)) for word, *rest in conditions])
 

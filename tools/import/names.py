@@ -3,9 +3,9 @@
 import re
 import string
 import unicodedata
-from pathlib import Path
 
 import paths  # noqa: F401
+from forms import FORMS
 from language import OPERANDS, QUANTITIES
 
 GREEK = (
@@ -16,12 +16,7 @@ LONGEST = 48
 
 def reserved_words():
     """The words that are no names: those of tools/forms, and those of expressions."""
-    words = {"prove", "assume", *OPERANDS, *QUANTITIES}
-    for line in Path(__file__).parent.parent.joinpath("forms").read_text(encoding="utf-8").splitlines():
-        parts = line.split()
-        if parts and parts[0] not in ("#", "assume"):
-            words.add(parts[1] if parts[0] == "prove" else parts[0])
-    return words
+    return {"prove", "assume", *OPERANDS, *QUANTITIES, *(form.word for form in FORMS if form.kind != "assume")}
 
 
 RESERVED = reserved_words()

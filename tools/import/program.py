@@ -4,9 +4,9 @@ from pathlib import Path
 
 import paths  # noqa: F401
 from files import reader_of
+from forms import COMMANDS
 from language import FORMS, LINE_COMMANDS, OPERANDS, QUANTITIES, TOKEN, Reader as StatementReader
 from model import Left, Unsaid
-from proof import STEPS
 from reader import Stated, printable, roots_of, short
 from shown import shown_by
 
@@ -188,7 +188,7 @@ def needed(commands, statement):
 
 def cost(commands):
     """How many points the commands count for in the language's limit."""
-    return sum(2 if command.word == "weights" else len(STEPS.get(command.word, ["PRATIO"])) for command in commands)
+    return sum(COMMANDS[command.word].points for command in commands if command.word in COMMANDS)
 
 
 def scale_of(places):

@@ -2,6 +2,8 @@
 # SPDX-License-Identifier: Apache-2.0
 from dataclasses import dataclass
 
+from forms import COMMANDS
+
 FINE, TOLD = "fine", "told"
 
 
@@ -43,32 +45,19 @@ def triangle(a, b, c, style=FINE):
     return segment(a, b, style=style) + segment(b, c, style=style) + segment(c, a, style=style)
 
 
+DRAWN = {"segment": segment, "circle": circle, "triangle": triangle}
+
+
 def of_command(command):
     """The lines and circles that a command speaks of."""
-    x, n = command.name, [a for a in command.args if isinstance(a, str)]
     if command.is_line:
-        return [Shape("line", (x,))]
-    shapes = {
-        "inter": lambda: segment(*n[:2], x) + segment(*n[2:], x),
-        "online": lambda: segment(*n, x),
-        "lratio": lambda: segment(*n, x),
-        "midpoint": lambda: segment(*n, x),
-        "foot": lambda: segment(*n[1:], x) + segment(n[0], x),
-        "symmetric": lambda: segment(n[0], x),
-        "reflect": lambda: segment(n[0], x) + segment(*n[1:]),
-        "pratio": lambda: segment(*n[1:]) + segment(n[0], x),
-        "tratio": lambda: segment(*n) + segment(n[0], x),
-        "translate": lambda: segment(*n[:2]) + segment(n[2], x),
-        "orthocenter": lambda: triangle(*n) + [s for name in n for s in segment(name, x)],
-        "centroid": lambda: triangle(*n),
-        "weights": lambda: triangle(*n),
-        "circumcenter": lambda: triangle(*n) + circle(x, n[0]),
-        "oncircle": lambda: circle(*n),
-        "second": lambda: circle(n[2], n[0]) + segment(*n[:2], x),
-        "cc": lambda: circle(n[0], n[2]) + circle(n[1], n[2]),
-        "inverse": lambda: circle(*n[1:]) + segment(n[1], n[0], x),
-    }
-    return shapes[command.word]() if command.word in shapes else []
+        return [Shape("line", (command.name,))]
+    if command.word == "assume":
+        return []
+    form = COMMANDS[command.word]
+    at = form.named(command)
+    rows = [row.split() for row in form.listed("drawn")]
+    return [shape for kind, *letters in rows for shape in DRAWN[kind](*(at[letter] for letter in letters))]
 
 
 def of_statement(statement):

@@ -1,9 +1,12 @@
-"""The formulas of the commands, expressions, conditions and statements, from the table `formulas`: as functions, and as a script."""
+"""The formulas of the commands, from the table tools/forms, and of expressions, conditions and statements, from the table `formulas`: as
+functions, and as a script."""
 # SPDX-License-Identifier: Apache-2.0
 import functools
 import re
 from fractions import Fraction
 from pathlib import Path
+
+from forms import COMMANDS
 
 TABLE = Path(__file__).parent / "formulas"
 HELPER = re.compile(r"([a-z]+)\(([a-z, ]*)\)")
@@ -28,32 +31,43 @@ def ratio(v, w):
 
 @functools.cache
 def rows():
-    """The lines of the table: for what they are, as ("minus", "helper"), ("different", "condition") or ("inter", "command"); the names
-    that the formula takes; the formula."""
-    found = {}
+    """The formulas by what they are of, as ("minus", "helper"), ("different", "condition") or ("inter", "command"): the names that one
+    takes, and the formula. The helpers come first."""
+    helpers, others = {}, {}
     for line in TABLE.read_text().splitlines():
         if line[:1] in ("", "#"):
             continue
         left, formula = line.split(" = ", 1)
         helper = HELPER.fullmatch(left)
-        kind, word, *names = ["helper", helper[1], *helper[2].split(", ")] if helper else head(left)
-        found[word, kind] = (names + ["t"] * bool(re.search(r"\bt\b", formula) and "t" not in names), formula)
+        if helper:
+            helpers[helper[1], "helper"] = helper[2].split(", "), formula
+        else:
+            kind, word, *names = left.split(" ")
+            others[word, kind] = names, formula
+    return helpers | places() | others
+
+
+def places():
+    """The formulas of the commands; behind its arguments one takes its own number."""
+    found = {}
+    for word, form in COMMANDS.items():
+        if "place" in form.said:
+            found[word, "command"] = (form.letters[1:] + form.listed("number"), form.said["place"])
     return found
 
 
-def head(left):
-    """The kind, the word and the arguments of a line. A command is written as in tools/forms, with the new name first."""
-    first, *names = left.split(" ")
-    return [first, *names] if first in ("expression", "condition", "prove") else ["command", first, *names[1:]]
+def function(names, formula, known):
+    """A formula as a function of these names, over functions that are known."""
+    return eval(f"lambda {', '.join(names)}: {formula}", known)
 
 
 @functools.cache
-def functions():
-    """The functions of the table, by word and kind."""
+def functions(divided=divided, ratio=ratio):
+    """The functions of the tables, by word and kind, for numbers that are divided so."""
     known = {"divided": divided, "ratio": ratio}
     found = {}
     for (word, kind), (names, formula) in rows().items():
-        found[word, kind] = eval(f"lambda {', '.join(names)}: {formula}", known)
+        found[word, kind] = function(names, formula, known)
         if kind == "helper":
             known[word] = found[word, kind]
     return found

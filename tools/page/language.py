@@ -3,11 +3,12 @@
 import itertools
 import re
 from dataclasses import dataclass, field
-from pathlib import Path
+
+from forms import COMMANDS, FORMS as TABLE
 
 TOKEN = re.compile(r"%[^\n]*|[A-Za-z][A-Za-z0-9_]*|-?[0-9]+|[{}]")
-LINE_COMMANDS = {"line", "parallel", "perp", "med"}
-VALUED_COMMANDS = {"param", "online", "oncircle"}
+LINE_COMMANDS = {word for word, form in COMMANDS.items() if form.makes == "line"}
+VALUED_COMMANDS = {word for word, form in COMMANDS.items() if "number" in form.said}
 
 
 @dataclass
@@ -61,18 +62,6 @@ def integer(word):
     return -number if word.startswith("-") else number
 
 
-def read_forms():
-    """The kinds of arguments of each word, from the list that the messages use too."""
-    forms = {}
-    for line in (Path(__file__).parent.parent / "forms").read_text().splitlines():
-        words = line.split()
-        if line.startswith("#") or not words:
-            continue
-        key, first = (words[1], 2) if words[0] in ("prove", "assume") else (words[0] + "!", 2)
-        forms[key] = [kind_of(word) for word in words[first:]]
-    return forms
-
-
 def kind_of(letter):
     if letter in "rsef":
         return "expression"
@@ -81,7 +70,9 @@ def kind_of(letter):
     return letter if letter in "{}" else "name"
 
 
-FORMS = read_forms()
+# The kinds of the arguments of each word; behind that of a command stands a mark, since some are words of statements too.
+FORMS = {form.word + "!": [kind_of(letter) for letter in form.letters[1:]] for form in COMMANDS.values()}
+FORMS |= {form.word: [kind_of(letter) for letter in form.letters] for form in TABLE if form.kind != "command"}
 OPERANDS = {"neg": 1, "sum": 2, "sub": 2, "mult": 2, "div": 2}
 QUANTITIES = {"signed_area3": 3, "pythagoras_difference3": 3, "sratio": 4}
 

@@ -4,31 +4,11 @@ import html
 import re
 from dataclasses import dataclass, field
 
+from forms import COMMANDS
 from words import command_html, condition_html, fraction, name_html, statement_html
 from language import read_statement
 
 SHOWN, SHOWN_SHORT = 24, 12
-STEPS = {
-    "point": ["free"],
-    "line": [],
-    "param": [],
-    "assume": [],
-    "parallel": ["PRATIO"],
-    "perp": ["PRATIO", "TRATIO"],
-    "med": ["PRATIO", "TRATIO"],
-    "intersec": ["INTER"],
-    "inter": ["INTER"],
-    "foot": ["FOOT"],
-    "tratio": ["TRATIO"],
-    "reflect": ["FOOT", "PRATIO"],
-    "circumcenter": ["PRATIO", "TRATIO", "PRATIO", "TRATIO", "INTER"],
-    "orthocenter": ["FOOT", "FOOT", "INTER"],
-    "centroid": ["PRATIO", "PRATIO"],
-    "oncircle": ["TRATIO", "FOOT", "PRATIO"],
-    "second": ["FOOT", "PRATIO"],
-    "cc": ["FOOT", "PRATIO"],
-    "weights": ["WEIGHTS"],
-}
 QUANTITY = re.compile(r"([SPRxy])\(([^)]*)\)")
 
 
@@ -36,7 +16,7 @@ def steps_of(program):
     """The kind of each point's step, its name in a readable proof, and its command; hidden points are counted."""
     steps = []
     for command in program.commands:
-        kinds = STEPS.get(command.word, ["PRATIO"])
+        kinds = COMMANDS[command.word].step_kinds if command.word in COMMANDS else []
         for k, kind in enumerate(kinds):
             named = command.is_point and k == len(kinds) - 1
             steps.append((kind, command.name if named else f"#{len(steps)}", command))

@@ -3,6 +3,10 @@
 import html
 import re
 
+from forms import COMMANDS
+
+LETTERS = re.compile(r"\b(?P<factor>[rs]) (?=[A-Z]{2}\b)|\b(?:[A-Z]+|[abrs])\b")
+
 
 def split_name(name):
     """A name, and what of it is set lower: digits, and what stands behind `_`."""
@@ -98,38 +102,17 @@ def statement_html(statement):
 
 
 def command_html(command):
-    """What a command makes, in words."""
-    x = name_html(command.name)
-    n = [name_html(a) for a in command.args if isinstance(a, str)]
-    r = [term(a).at_least(1) for a in command.args if not isinstance(a, str) and command.word != "assume"]
-    pairs = ["".join(n[k : k + 2]) for k in range(0, len(n), 2)]
-    times = "" if r[:1] == ["1"] else f"{r[0]}&#8239;" if r else ""
-    words = {
-        "point": lambda: f"{x} is any point",
-        "param": lambda: f"{x} is any number",
-        "line": lambda: f"{x} is the line {pairs[0]}",
-        "parallel": lambda: f"{x} is the line through {n[0]} parallel to {n[1]}",
-        "perp": lambda: f"{x} is the line through {n[0]} perpendicular to {n[1]}",
-        "med": lambda: f"{x} is the perpendicular bisector of {pairs[0]}",
-        "intersec": lambda: f"{x} is on the lines {n[0]} and {n[1]}",
-        "inter": lambda: f"{x} is on the lines {pairs[0]} and {pairs[1]}",
-        "foot": lambda: f"{x} is the foot of the perpendicular from {n[0]} to the line {n[1]}{n[2]}",
-        "pratio": lambda: f"{x} is the point with {n[0]}{x} = {times}{n[1]}{n[2]}, as vectors",
-        "tratio": lambda: f"{x} is the point to which {n[0]}{x} is {times}{pairs[0]} turned a quarter to the left, as vectors",
-        "online": lambda: f"{x} is any point of the line {pairs[0]}",
-        "lratio": lambda: f"{x} is the point with {n[0]}{x} = {times}{pairs[0]}, as vectors",
-        "midpoint": lambda: f"{x} is the midpoint of {pairs[0]}",
-        "translate": lambda: f"{x} is the point with {n[2]}{x} = {pairs[0]}, as vectors",
-        "symmetric": lambda: f"{x} is the image of {n[0]} in the point {n[1]}",
-        "reflect": lambda: f"{x} is the image of {n[0]} in the line {n[1]}{n[2]}",
-        "circumcenter": lambda: f"{x} is the circumcenter of {n[0]}{n[1]}{n[2]}",
-        "orthocenter": lambda: f"{x} is the orthocenter of {n[0]}{n[1]}{n[2]}",
-        "centroid": lambda: f"{x} is the centroid of {n[0]}{n[1]}{n[2]}",
-        "oncircle": lambda: f"{x} is any point of the circle around {n[0]} through {n[1]}, but not the one opposite to {n[1]}",
-        "second": lambda: f"{x} is the second point of the line {pairs[0]} on the circle around {n[2]} through {n[0]}",
-        "cc": lambda: f"{x} is the second common point of the circles around {n[0]} and {n[1]} through {n[2]}",
-        "inverse": lambda: f"{x} is the inverse of {n[0]} in the circle around {n[1]} through {n[2]}",
-        "weights": lambda: f"{x} is {n[0]} + {r[0]} ({n[1]} &minus; {n[0]}) + {r[1]} ({n[2]} &minus; {n[0]})",
-        "assume": lambda: condition_html(command.args[0]),
-    }
-    return words[command.word]() if command.word in words else html.escape(f"{command.word} {command.name}")
+    """What a command makes, in the words of tools/forms."""
+    if command.word == "assume":
+        return condition_html(command.args[0])
+    form = COMMANDS[command.word]
+    shown = {letter: name_html(a) if isinstance(a, str) else term(a).at_least(1) for letter, a in form.named(command).items()}
+    return LETTERS.sub(lambda found: lettered(found, shown), form.said["words"])
+
+
+def lettered(found, shown):
+    """What stands in the place of letters: a factor in front of two points, or names side by side. Other words stay."""
+    if found["factor"]:
+        factor = shown[found["factor"]]
+        return "" if factor == "1" else f"{factor}&#8239;"
+    return "".join(shown[letter] for letter in found[0]) if set(found[0]) <= set(shown) else found[0]

@@ -1,5 +1,6 @@
 // SPDX-License-Identifier: Apache-2.0
-// The text of the program: CodeMirror where it is installed, else a plain field, with the same calls. `forms` are the lines of tools/forms.
+// The text of the program: CodeMirror where it is installed, else a plain field, with the same calls. `forms` are the lines of tools/forms that say
+// how a command, a statement or a condition is written.
 class Forms {
   constructor(lines) {
     this.written = new Map();

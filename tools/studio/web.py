@@ -12,6 +12,7 @@ from pathlib import Path
 import formulas
 from answers import TOOLS
 from files import NoFile
+from forms import FORMS
 from runs import GivenUp
 
 HERE = Path(__file__).parent
@@ -143,8 +144,7 @@ class Handler(BaseHTTPRequestHandler):
     def asset(self):
         name = self.name()
         if name == "start":
-            forms = (TOOLS / "forms").read_text().splitlines()
-            start = {"files": self.server.files.listed(), "examples": self.server.files.examples, "forms": [f for f in forms if f[:1] not in ("", "#")]}
+            start = {"files": self.server.files.listed(), "examples": self.server.files.examples, "forms": [form.line for form in FORMS]}
             self.reply(200, "application/json", json.dumps(start).encode())
         elif name in self.server.assets:
             suffix, data = self.server.assets[name]

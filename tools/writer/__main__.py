@@ -3,7 +3,8 @@
 
     python3 tools/writer PROGRAM.geo > LOG
 
-It was made from docs/LANGUAGE.md, docs/LOG.md and docs/LEMMAS.md alone, and needs Python's standard library. `geo_cli check` accepts its
+It was made from docs/LANGUAGE.md, docs/LOG.md and docs/LEMMAS.md alone, and needs Python's standard library; its table of commands is
+tools/forms, which tests/writer compares with these pages. `geo_cli check` accepts its
 logs, and with the most steps where the default is spent. It works on small programs. It ends with 0 where it wrote a log, whatever its
 verdict is, 3 where the file cannot be read, 4 where the text is no program, and 7 where a polynomial gets too large for it; the program
 is not looked through as `geo_cli` does it.
