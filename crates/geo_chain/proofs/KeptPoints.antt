@@ -9,7 +9,7 @@ use Rattle.geo_poly.specs.declared.variables.Var.TheVariants.{R, S, P, X as Absc
 use Rattle.geo_poly.specs.Polynomials.{Summands}
 use Rattle.geo_poly.specs.Variables.{var_cmp}
 use Rattle.geo_poly.specs.PolynomialVariables.{AllVariables, variables_of}
-use Rattle.geo_poly.proofs.EachVariable.{EachIn, OfNumerators, each-variables, of-both, of-replaced_by, of-rows, some_row}
+use Rattle.geo_poly.proofs.EachVariable.{EachIn, OfNumerators, each-variables, of-replaced_by, of-rows, some_row}
 use Rattle.geo_terms.specs.Constructions.{Construction, IsConstruction}
 use Rattle.fraction_poly.specs.TableRows.{HasPointsBelow, TableRow, made_row}
 use Rattle.geo_chain.specs.NextLines.{HasLinePointsBelow}
@@ -19,7 +19,6 @@ use Rattle.geo_logs.specs.declared.moves.Move.{Move}
 use Rattle.geo_logs.specs.declared.moves.Move.TheVariants.{Ratio, Point, Coords}
 use Rattle.elim_apply.specs.LemmaTable.{lemma_table}
 use Rattle.geo_logs.specs.Moves.{IsMoved, replacement}
-use Rattle.geo_logs.specs.Naming.{IsNamed}
 use Rattle.geo_logs.specs.Sound.{NamesNoLater}
 use Rattle.geo_logs.proofs.NamedPoints.{named_points}
 use Rattle.elim_apply.proofs.MoveRows.{lemma_table_sound}

@@ -1,5 +1,7 @@
 pub mod Searches
+pub mod HighestPoints
 pub mod FirstVariables
+pub mod FirstFitting
 pub mod Points
 pub mod Moves
 pub mod DueCuts

@@ -1,6 +1,6 @@
 -- Which move is the next one.
-use Rattle.std.proofs.Common.{◌≡◌, inl, inr, Contains, List, Option, Some, None, refl, sym, subst}
-use Rattle.std.specs.Prelude.{IfNone, IfSome}
+use Rattle.std.proofs.Common.{◌≡◌, inl, inr, Option, Some, None, refl}
+use Rattle.std.specs.Prelude.{IfSome}
 use Rattle.geo_points.specs.declared.ids.PointId.{PointId}
 use Rattle.geo_poly.specs.declared.variables.Var.{Var}
 use Rattle.geo_poly.specs.declared.variables.Var.TheVariants.{R, S, P, X as Abscissa, Y as Ordinate, T as Number}
@@ -26,45 +26,35 @@ plain_or (Abscissa a) h = tt
 plain_or (Ordinate a) h = tt
 plain_or (Number t) h = tt
 
-module _ (q : Summands) (vs : List Var) (is : vs ≡ variables_of q) where
-  there : (v : Var) → Contains vs v → Contains (variables_of q) v
-  there v = subst (λ (ws : List Var). Contains ws v) is
-
-  back : (v : Var) → Contains (variables_of q) v → Contains vs v
-  back v = subst (λ (ws : List Var). Contains ws v) (sym is)
-
+module _ (q : Summands) where
   -- where no quantity of points is left, a chain ends
-  pub end_of : NoneFits AnyQuantity vs → IsEnd q
-  end_of none = all_variables IsPlain q (λ v c. plain_or v (none v (back v c)))
+  pub end_of : NoneFits AnyQuantity (variables_of q) → IsEnd q
+  end_of none = all_variables IsPlain q (λ v stands. plain_or v (none v stands))
 
   module _ (c : Construction) where
     -- the move of the highest constructed point
-    pub ratio_next : (y : PointId) (v : Var) → IsHighest c y q → IsFirstFitting (RatioWith y) vs v
+    pub ratio_next : (y : PointId) (v : Var) → IsHighest c y q → IsFirstFitting (RatioWith y) (variables_of q) v
         → IsNextMove lemma_table c q (Ratio v (first_lemma c y v) (named_point (first_lemma c y v) y))
     ratio_next y v high f = inl (
       y,
       high,
-      record { stands = there v f.stands; ratio = f.fits.0; fits = f.fits.1; first = λ w s ratio has. f.first w (back w s) (ratio, has) },
+      record { stands = f.stands; ratio = f.fits.0; fits = f.fits.1; first = λ w s ratio has. f.first w s (ratio, has) },
       refl,
       refl,
     )
 
-    pub point_next : (y : PointId) → IsHighest c y q → NoneFits (RatioWith y) vs → IsNextMove lemma_table c q (Point y)
-    point_next y high none = (high, λ v s ratio has. none v (back v s) (ratio, has))
+    pub point_next : (y : PointId) → IsHighest c y q → NoneFits (RatioWith y) (variables_of q) → IsNextMove lemma_table c q (Point y)
+    point_next y high none = (high, λ v s ratio has. none v s (ratio, has))
 
     -- and without constructed points
-    pub free_ratio_next : (v : Var) → HasFreePointsAlone c q → IsFirstFitting AnyRatio vs v → IsNextMove lemma_table c q (Ratio v 0 (record { 0 = 0 }))
+    pub free_ratio_next : (v : Var) → HasFreePointsAlone c q → IsFirstFitting AnyRatio (variables_of q) v
+        → IsNextMove lemma_table c q (Ratio v 0 (record { 0 = 0 }))
     free_ratio_next v free f = inr (
       free,
-      record { stands = there v f.stands; ratio = f.fits; fits = tt; first = λ w s ratio any. f.first w (back w s) ratio },
+      record { stands = f.stands; ratio = f.fits; fits = tt; first = λ w s ratio any. f.first w s ratio },
       refl,
       refl,
     )
-
--- what holds where there is nothing
-pub none_then : {A First Second : Type 0} (o : Option A) → IfNone o First → (First → Second) → IfNone o Second
-none_then None h f = f h
-none_then (Some a) h f = tt
 
 -- at an end there is no next move
 pub none_at_end : (c : Construction) (q : Summands) (o : Option Move) → IfSome o (IsNextMove lemma_table c q) → IsEnd q → o ≡ None

@@ -3,7 +3,8 @@ use Rattle.std.proofs.Common.{◌≡◌, ◌||◌, ◌⊎◌, inl, inr, ⊎_elim
 use Rattle.geo_points.specs.declared.ids.PointId.{PointId}
 use Rattle.geo_terms.specs.Constructions.{Construction}
 use Rattle.geo_logs.specs.Defined.{IsConstructed, is_point}
-use Rattle.geo_chain.specs.Inner.Searches.{Improves}
+use Rattle.geo_chain.specs.Inner.Searches.{Improves, IsAsHigh}
+use Rattle.geo_chain.proofs.HighestPoints.{by_height}
 use Rattle.geo_chain.proofs.Searches.{both}
 
 no_true : {P : Type 0} → IsTrue false → P
@@ -48,13 +49,13 @@ first4 false j k l h = no_true h
 module _ (s : Construction) where
   -- a search over the constructed points with the property
   abbrev Over : (PointId → Bool) → Option PointId → Option PointId → Type 0
-  Over is x y = Improves (λ z. IsConstructed s z × IsTrue (is z)) x y
+  Over is x y = Improves IsAsHigh (λ z. IsConstructed s z × IsTrue (is z)) x y
 
   more : (one rest all : PointId → Bool) (x y z : Option PointId) → ((p : PointId) → IsTrue (all p) → IsTrue (rest p) ⊎ IsTrue (one p))
       → ((p : PointId) → IsTrue (rest p) → IsTrue (all p)) → ((p : PointId) → IsTrue (one p) → IsTrue (all p))
       → Over rest x y → Over one y z → Over all x z
   more one rest all x y z part back there h g =
-      both (λ p. IsConstructed s p × IsTrue (rest p)) (λ p. IsConstructed s p × IsTrue (one p)) (λ p. IsConstructed s p × IsTrue (all p)) x y z
+      both IsAsHigh by_height (λ p. IsConstructed s p × IsTrue (rest p)) (λ p. IsConstructed s p × IsTrue (one p)) (λ p. IsConstructed s p × IsTrue (all p)) x y z
       (λ p k. (k.0, back p k.1)) (λ p k. (k.0, there p k.1))
       (λ p k. ⊎_elim (λ (t : IsTrue (rest p)). let r : (IsConstructed s p × IsTrue (rest p))
       ⊎ (IsConstructed s p × IsTrue (one p)) = inl (k.0, t) in r) (λ (t : IsTrue (one p)). inr (k.0, t)) (part p k.1)) h g

@@ -1,39 +1,20 @@
 -- The next move replaces something, and its polynomial names the points of the steps alone.
-use Rattle.std.proofs.Common.{◌≡◌, ◌≢◌, ℕ, zero, suc, ◌<◌, ◌||◌, ◌&&◌, inl, inr, IsTrue, Bool, true, false, cond, Contains, Option, Some, None, List, [], ◌∷◌, length, refl, sym, subst, arith, eq-eqb}
-use Rattle.std.specs.Prelude.{slice_get, find, if◌then◌else◌}
-use Rattle.std.specs.List.{cons_option, filter_map}
-use Rattle.std.specs.Option.{is_some, option_and_then, option_map}
-use Rattle.std.specs.Ordering.{is_eq}
-use Rattle.std.specs.declared.cmp.Ordering.{Ordering}
-use Rattle.std.specs.declared.cmp.Ordering.TheVariants.{Less, Equal, Greater}
+use Rattle.std.proofs.Common.{◌≡◌, ◌≢◌, ℕ, zero, suc, ◌<◌, inl, inr, IsTrue, Contains, Option, Some, None, List, [], ◌∷◌, length, sym, subst, arith}
+use Rattle.std.specs.Prelude.{slice_get}
+use Rattle.std.specs.Option.{is_some}
 use Rattle.geo_points.specs.declared.ids.PointId.{PointId}
-use Rattle.geo_poly.specs.declared.replacement.Row.{Row}
 use Rattle.geo_poly.specs.declared.variables.Var.{Var}
-use Rattle.geo_poly.specs.declared.variables.Var.TheVariants.{R, S, P, X as Abscissa, Y as Ordinate, T as Number}
 use Rattle.geo_poly.specs.Polynomials.{Summands}
-use Rattle.geo_poly.specs.Variables.{var_cmp}
-use Rattle.geo_poly.proofs.Orders.{var_order}
 use Rattle.geo_terms.specs.declared.steps.Step.{Step}
-use Rattle.geo_terms.specs.declared.steps.Step.TheVariants.{Point as FreeStep, Inter, Foot, Pratio, Tratio, Weights}
 use Rattle.geo_terms.specs.Constructions.{Construction}
 use Rattle.geo_logs.specs.declared.moves.Move.{Move}
 use Rattle.geo_logs.specs.declared.moves.Move.TheVariants.{Ratio, Point, Coords}
-use Rattle.geo_logs.specs.Defined.{HasFreePointsAlone, IsConstructed, IsNextMove, Occurs, has_point, is_point, named_point}
-use Rattle.area_coords.specs.FreeTable.{area_in_coordinates, difference_in_coordinates, free_table, is_free, is_free_step}
-use Rattle.fraction_poly.specs.Forms.{integer}
-use Rattle.elim_area.specs.AreaTable.{area_numerator, area_table, points_after}
-use Rattle.elim_pyth.specs.DifferenceTable.{difference_row, difference_table, reading}
-use Rattle.elim_pyth.specs.declared.pyth_rows.Reading.{Reading}
-use Rattle.elim_pyth.specs.declared.pyth_rows.Reading.TheVariants.{Linear, Quadratic}
-use Rattle.elim_ratio.specs.RatioTable.{first_lemma, ratio_table}
-use Rattle.elim_apply.specs.FirstLemmas.{lemmas}
-use Rattle.elim_apply.proofs.FirstRows.{first_lemma_has_row}
-use Rattle.fraction_poly.specs.StepForms.{step_row}
-use Rattle.fraction_poly.specs.TableRows.{HasPointsBelow, TableRow, made_row}
+use Rattle.geo_logs.specs.Defined.{IsNextMove}
+use Rattle.fraction_poly.specs.TableRows.{HasPointsBelow}
 use Rattle.elim_apply.specs.LemmaTable.{lemma_table}
 use Rattle.geo_logs.specs.Moves.{place_of, replacement}
 use Rattle.geo_logs.specs.Naming.{IsPlaceBelow}
-use Rattle.geo_poly.specs.PolynomialVariables.{AllVariables, IsQuantity, IsRatio, variables_of}
+use Rattle.geo_poly.specs.PolynomialVariables.{AllVariables, variables_of}
 use Rattle.geo_poly.proofs.EachVariable.{each-contained, each-variables}
 use Rattle.elim_apply.proofs.FoundRows.{Row_of, coords_row, first_row, named_row, point_row, rows_some, zero_row}
 

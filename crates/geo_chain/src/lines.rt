@@ -127,7 +127,7 @@ fn next_line_in<L: Ledger>(
     if let Some(line) = cut_line(alloc, p, &known.items)? {
         return Ok(line);
     }
-    let Some(mv) = next_move(alloc, steps, p)? else {
+    let Some(mv) = next_move(steps, p) else {
         return Ok(Line::End);
     };
     let mut ticks = Ticks::<L>::new(blank);

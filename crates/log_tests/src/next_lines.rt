@@ -104,7 +104,7 @@ fn ratio_is_next(alloc: Global) -> Result<bool, NoMemory> {
     let steps = with_crossing(alloc)?;
     let [a, b, f] = [PointId(0), PointId(1), PointId(4)];
     let ratio = Poly::var(alloc, Var::R(a, f, b, f))?;
-    match next_move(alloc, &steps, &ratio)? {
+    match next_move(&steps, &ratio) {
         Some(Move::Ratio { var, lemma, at }) => {
             Ok(var == Var::R(a, f, b, f) && lemma == 21 && at == f)
         }
