@@ -2,12 +2,14 @@
 """Made inputs that are costly for their bytes and charges, for `bench/hostile`.
 
 Numbers of steps with many nodes, negations in a row, many conditions over one step, products of areas that are 0, many divisors, many
-assumptions, many tries of a sample, high powers; logs with many cuts, which are free, for `check`; and what a stranger may pick so that it
-is hard to look up: integers with one hash, long names that differ at their ends, many names and many variables of a log for `text`, many
-names that a citation gives; and searches for relations, of free points alone, and beside many lines.
+assumptions, many tries of a sample, high powers; logs with many cuts, which are free; and what a stranger may pick so that it
+is hard to look up: integers with one hash, long names that differ at their ends, many names and many variables of a log, many
+names that a citation gives; and searches for relations, of free points alone, with and without steps, and beside many lines and parameters.
 """
 import itertools
 import math
+from collections.abc import Callable
+from typing import NamedTuple
 
 PROVED, FALSE, TOO_LARGE, SPENT, REJECTED, DONE = 0, 1, 6, 7, 11, 13
 MULTIPLIER = 0x9E3779B97F4A7C15  # of the hasher in the toolchain's library: integers with it in their upper half have one hash
@@ -125,9 +127,23 @@ def zero_log(names):
     return log_of([*params(names), "prove { equal { 0 } { 0 } }"], ["goal 1 equal { 0 } { 0 }", "start : 0", "end"], [sample], "proved")
 
 
+def sum_of(upper_halves):
+    """A sum of integers with these upper halves, which are below 0 and differ in their lower halves."""
+    return f"equal {{ {tree('sum', [str((upper << 64 | k) - 2**128) for k, upper in enumerate(upper_halves)])} }} {{ 0 }}"
+
+
 def colliding(size):
     """So many integers with one hash, in one sum."""
-    return f"equal {{ {tree('sum', [str((MULTIPLIER << 64 | k) - 2**128) for k in range(size)])} }} {{ 0 }}"
+    return sum_of([MULTIPLIER] * size)
+
+
+def spread(size):
+    """So many integers of the same length, each with a hash of its own."""
+    return sum_of([MULTIPLIER ^ k * 2654435761 % 2**40 for k in range(size)])
+
+
+def log_of_sum(statement):
+    return log_of([f"prove {{ {statement} }}"], [f"goal 1 {statement}", "start : 0", "end"], [], "proved")
 
 
 def integers(size):
@@ -135,10 +151,19 @@ def integers(size):
     return program([], colliding(size))
 
 
+def integers_spread(size):
+    """A program with as many others."""
+    return program([], spread(size))
+
+
 def log(size):
-    """A log with as many, which the program of the log has."""
-    statement = colliding(size)
-    return log_of([f"prove {{ {statement} }}"], [f"goal 1 {statement}", "start : 0", "end"], [], "proved")
+    """A log with as many of one hash, which the program of the log has."""
+    return log_of_sum(colliding(size))
+
+
+def log_spread(size):
+    """A log with as many others."""
+    return log_of_sum(spread(size))
 
 
 def words(size):
@@ -164,17 +189,42 @@ def names(size):
     return zero_log([f"p{k}" for k in range(size)])
 
 
+def citation(size, given):
+    """A theorem with as many parameters, and the program of itself where they have the names given."""
+    own = [f"p{k}" for k in range(size)]
+    return zero_log(own) + "with " + " ".join(given) + "\n" + program(params(own), "equal { 0 } { 0 }")
+
+
 def cited(size):
     """A theorem with as many parameters, cited at itself with all its names."""
-    own = [f"p{k}" for k in range(size)]
-    return zero_log(own) + "with " + " ".join(own) + "\n" + program(params(own), "equal { 0 } { 0 }")
+    return citation(size, [f"p{k}" for k in range(size)])
+
+
+def cited_by_one(size):
+    """The same, with one name for all its parameters."""
+    return citation(size, ["p0"] * size)
+
+
+def all_triples(size):
+    """Of the least number of points that is enough the first so many triples."""
+    count = next(n for n in range(3, size + 4) if math.comb(n, 3) >= size)
+    return count, list(itertools.islice(itertools.combinations(range(count), 3), size))
+
+
+def sum_of_areas(triples):
+    return f"equal {{ {tree('sum', [f'signed_area3 P{a} P{b} P{c}' for a, b, c in triples])} }} {{ 0 }}"
+
+
+def area_sum(size):
+    """The program of the next log."""
+    count, triples = all_triples(size)
+    return program(free(count), sum_of_areas(triples))
 
 
 def areas(size):
     """A log with as many areas in a line that is cut ten times."""
-    count = next(n for n in range(3, size + 4) if n * (n - 1) * (n - 2) // 6 >= size)
-    triples = list(itertools.islice(itertools.combinations(range(count), 3), size))
-    statement = f"equal {{ {tree('sum', [f'signed_area3 P{a} P{b} P{c}' for a, b, c in triples])} }} {{ 0 }}"
+    count, triples = all_triples(size)
+    statement = sum_of_areas(triples)
     turn = [" ".join(f"{sign}1*S{a}.{b}.{c}" for a, b, c in triples) for sign in "-+"]
     sums = {}
     for a, b, c in triples:
@@ -188,6 +238,14 @@ def areas(size):
     return log_of([*free(count), f"prove {{ {statement} }}"], chain, [sample], "false 1")
 
 
+def short_cuts(size):
+    """A log with as many cuts of one area by -1, which ends with 0 at its coordinates."""
+    lines, statement = [*free(3), "midpoint M P0 P1"], "equal { signed_area3 P0 P1 M } { 0 }"
+    cuts = ["cut -1 : -1*S0.1.3", "cut -1 : +1*S0.1.3"] * (size // 2)
+    sample = "sample" + "".join(f" {letter}{k}=0" for k in range(3) for letter in "xy")
+    return log_of([*lines, f"prove {{ {statement} }}"], [f"goal 1 {statement}", "start : +1*S0.1.3", *cuts, "point 3 : 0", "end"], [sample], "proved")
+
+
 def bare_cuts(size):
     """A log with as many cuts of nothing."""
     statement = "equal { 0 } { 0 }"
@@ -199,9 +257,19 @@ def bare_lines(size):
     return "geolog 2\n" + "| point A\n" * size
 
 
+def assumed_of(points, size):
+    """As many assumptions on so many points."""
+    return program([*free(points), *(f"assume different P{i} P{j}" for i, j in pairs(points)[:size])], "identical P0 P0")
+
+
 def assumed_pairs(size):
     """As many assumptions on 129 points."""
-    return program([*free(129), *(f"assume different P{i} P{j}" for i, j in pairs(129)[:size])], "identical P0 P0")
+    return assumed_of(129, size)
+
+
+def assumed_of_512(size):
+    """As many assumptions on 512 points."""
+    return assumed_of(512, size)
 
 
 def candidates(count):
@@ -209,39 +277,108 @@ def candidates(count):
     return math.comb(count, 3) + 4 * math.comb(count, 4) + 2 * math.comb(math.comb(count, 2), 2)
 
 
+def of_six(_size):
+    """How many those of six points are."""
+    return candidates(6)
+
+
 def found(size):
     """As many free points, of whose candidates none is a relation."""
     return program(free(size), "identical P0 P0")
 
 
+def lines_of_two(count):
+    return [f"line l{k} P0 P1" for k in range(count)]
+
+
 def beside_lines(size):
     """The same, and lines, which make no candidate, four times as many as there are candidates."""
-    return program([*free(size), *(f"line l{k} P0 P1" for k in range(4 * candidates(size)))], "identical P0 P0")
+    return program([*free(size), *lines_of_two(4 * candidates(size))], "identical P0 P0")
 
 
-# Of each family the word, the status, and for each size its charge, and fewer steps with the line at which the run stops with them. Where
-# charges have no part in it there is none, and the run has one step.
+def many_lines(size):
+    """Six free points, and as many lines."""
+    return program([*free(6), *lines_of_two(size)], "identical P0 P0")
+
+
+def many_params(size):
+    """Six free points, and as many parameters."""
+    return program([*free(6), *params([f"p{k}" for k in range(size)])], "identical P0 P0")
+
+
+def once(_size):
+    return 1
+
+
+class Charges(NamedTuple):
+    """The charge of an input, and fewer steps with the line at which the run stops with them. Where charges have no part in it there is
+    none, and the run has one step."""
+
+    whole: int | None = None
+    steps: int | None = None
+    line: int | None = None
+
+
+class Family(NamedTuple):
+    """Inputs of three sizes for a word, the status with which all end, and how many times the steps are taken."""
+
+    make: Callable[[int], str]
+    word: str
+    status: int
+    sizes: dict[int, Charges]
+    tried: Callable[[int], int] = once
+
+
+def free_of_charge(*sizes):
+    return {size: Charges() for size in sizes}
+
+
+def charged(charges):
+    return {size: Charges(charge) for size, charge in charges.items()}
+
+
+def stopped(charges):
+    return {size: Charges(*row) for size, row in charges.items()}
+
+
+PRODUCT = charged({2500: 10001, 5000: 20001, 10000: 40001})
+PRODUCTS = charged({250: 31920, 500: 61920, 1000: 121920})
+AREAS = charged({2500: 135676, 5000: 277266, 10000: 561918})
 FAMILIES = [
-    (numbers, "prove", FALSE, {400: (40909, 12290, 35), 800: (94937, 25378, 47), 1600: (225528, 52354, 64)}),
-    (negations, "prove", FALSE, {160: (15156, 6311, 25), 320: (34469, 12935, 32), 640: (78030, 26503, 43)}),
-    (conditions, "prove", PROVED, {60: (35632, 35631, 491), 120: (110842, 110841, 971), 240: (380062, 380061, 1931)}),
-    (zeros, "prove", PROVED, {2000: (4001, 4000, 68), 4000: (8001, 8000, 94), 8000: (16001, 16000, 131)}),
-    (divisors, "prove", TOO_LARGE, {5000: (81809, 81808, 20004), 10000: (173617, 173616, 40004), 20000: (367233, 367232, 80004)}),
-    (assumed, "prove", PROVED, {16: (59020, 59019, 742), 32: (822616, 822615, 3014), 48: (4004964, 4004963, 6822)}),
-    (assumed_pairs, "prove", PROVED, {500: (884460, None, None), 1000: (3085820, None, None), 2000: (11391384, None, None)}),
-    (tries, "prove", FALSE, {40: (37374, 37373, 86), 80: (276506, 276505, 166), 160: (2127730, 2127729, 326)}),
-    (product, "prove", FALSE, {625: (2501, None, None), 1250: (5001, None, None), 2500: (10001, None, None)}),
-    (products, "prove", PROVED, {60: (9120, None, None), 120: (16320, None, None), 240: (30720, None, None)}),
-    (powers, "prove", PROVED, {6: (81755, 10258, 11), 8: (1181095, 118158, 11), 10: (15589059, 1299146, 11)}),
-    (cuts, "check", REJECTED, {1000: (297, None, None), 2000: (297, None, None), 4000: (297, None, None)}),
-    (bare_cuts, "check", REJECTED, {50000: (3, None, None), 100000: (3, None, None), 200000: (3, None, None)}),
-    (bare_lines, "check", REJECTED, {50000: (None, None, None), 100000: (None, None, None), 200000: (None, None, None)}),
-    (integers, "prove", SPENT, {2000: (None, None, None), 4000: (None, None, None), 8000: (None, None, None)}),
-    (log, "check", SPENT, {2000: (None, None, None), 4000: (None, None, None), 8000: (None, None, None)}),
-    (words, "prove", SPENT, {3750: (None, None, None), 7500: (None, None, None), 15000: (None, None, None)}),
-    (names, "text", DONE, {25000: (3, None, None), 50000: (3, None, None), 100000: (3, None, None)}),
-    (areas, "text", DONE, {2500: (135676, None, None), 5000: (277266, None, None), 10000: (561918, None, None)}),
-    (cited, "cite", DONE, {10000: (3, None, None), 20000: (3, None, None), 40000: (3, None, None)}),
-    (found, "discover", DONE, {8: (912, None, None), 12: (1296, None, None), 16: (1680, None, None)}),
-    (beside_lines, "discover", DONE, {6: (846, None, None), 8: (1042, None, None), 11: (1336, None, None)}),
+    Family(numbers, "prove", FALSE, stopped({400: (40909, 12290, 35), 800: (94937, 25378, 47), 1600: (225528, 52354, 64)})),
+    Family(negations, "prove", FALSE, stopped({160: (15156, 6311, 25), 320: (34469, 12935, 32), 640: (78030, 26503, 43)})),
+    Family(conditions, "prove", PROVED, stopped({60: (35632, 35631, 491), 120: (110842, 110841, 971), 240: (380062, 380061, 1931)})),
+    Family(zeros, "prove", PROVED, stopped({2000: (4001, 4000, 68), 4000: (8001, 8000, 94), 8000: (16001, 16000, 131)})),
+    Family(divisors, "prove", TOO_LARGE, stopped({5000: (81809, 81808, 20004), 10000: (173617, 173616, 40004), 20000: (367233, 367232, 80004)})),
+    Family(assumed, "prove", PROVED, stopped({16: (59020, 59019, 742), 32: (822616, 822615, 3014), 48: (4004964, 4004963, 6822)})),
+    Family(assumed_pairs, "prove", PROVED, charged({500: 884460, 1000: 3085820, 2000: 11391384})),
+    Family(assumed_of_512, "prove", PROVED, charged({500: 1166750, 1000: 4047561, 2000: 13650576})),
+    Family(tries, "prove", FALSE, stopped({40: (37374, 37373, 86), 80: (276506, 276505, 166), 160: (2127730, 2127729, 326)})),
+    Family(product, "prove", FALSE, PRODUCT),
+    Family(products, "prove", PROVED, PRODUCTS),
+    Family(powers, "prove", PROVED, stopped({6: (81755, 10258, 11), 8: (1181095, 118158, 11), 10: (15589059, 1299146, 11)})),
+    Family(cuts, "check", REJECTED, charged({1000: 297, 2000: 297, 4000: 297})),
+    Family(short_cuts, "check", PROVED, charged({100000: 27, 200000: 27, 400000: 27})),
+    Family(short_cuts, "text", DONE, charged({100000: 27, 200000: 27, 400000: 27})),
+    Family(bare_cuts, "check", REJECTED, charged({50000: 3, 100000: 3, 200000: 3})),
+    Family(bare_lines, "check", REJECTED, free_of_charge(50000, 100000, 200000)),
+    Family(integers, "prove", SPENT, free_of_charge(2000, 4000, 8000)),
+    Family(integers_spread, "prove", SPENT, free_of_charge(2000, 4000, 8000)),
+    Family(log, "check", SPENT, free_of_charge(2000, 4000, 8000)),
+    Family(log, "text", SPENT, free_of_charge(2000, 4000, 8000)),
+    Family(log_spread, "check", SPENT, free_of_charge(2000, 4000, 8000)),
+    Family(words, "prove", SPENT, free_of_charge(3750, 7500, 15000)),
+    Family(names, "check", PROVED, charged({25000: 3, 50000: 3, 100000: 3})),
+    Family(names, "text", DONE, charged({25000: 3, 50000: 3, 100000: 3})),
+    Family(area_sum, "prove", FALSE, charged({2500: 134437, 5000: 275225, 10000: 558725})),
+    Family(areas, "check", FALSE, AREAS),
+    Family(areas, "text", DONE, AREAS),
+    Family(cited, "cite", DONE, charged({10000: 3, 20000: 3, 40000: 3})),
+    Family(cited_by_one, "cite", DONE, charged({10000: 3, 20000: 3, 40000: 3})),
+    Family(found, "discover", DONE, charged({8: 912, 12: 1296, 16: 1680}), candidates),
+    Family(found, "discover", SPENT, free_of_charge(12, 18, 25), candidates),
+    Family(beside_lines, "discover", DONE, charged({6: 846, 8: 1042, 11: 1336}), candidates),
+    Family(many_lines, "discover", DONE, charged({8000: 846, 16000: 846, 32000: 846}), of_six),
+    Family(many_params, "discover", DONE, charged({2000: 2720, 4000: 4720, 8000: 8720}), of_six),
+    Family(many_params, "discover", SPENT, free_of_charge(8000, 16000, 32000), of_six),
 ]
