@@ -378,7 +378,8 @@ FAMILIES = [
     Family(found, "discover", DONE, charged({8: 912, 12: 1296, 16: 1680}), candidates),
     Family(found, "discover", SPENT, free_of_charge(12, 18, 25), candidates),
     Family(beside_lines, "discover", DONE, charged({6: 846, 8: 1042, 11: 1336}), candidates),
-    Family(many_lines, "discover", DONE, charged({8000: 846, 16000: 846, 32000: 846}), of_six),
+    # The candidates of six points are the same for each size, so they count once.
+    Family(many_lines, "discover", DONE, charged({8000: 846, 16000: 846, 32000: 846})),
     Family(many_params, "discover", DONE, charged({2000: 2720, 4000: 4720, 8000: 8720}), of_six),
     Family(many_params, "discover", SPENT, free_of_charge(8000, 16000, 32000), of_six),
 ]
