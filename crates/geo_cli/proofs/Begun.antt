@@ -6,7 +6,7 @@ use Rattle.geo_answers.specs.Due.{Due}
 use Rattle.geo_base.specs.Devices.{Grows}
 use Rattle.geo_cli.specs.declared.order.Command.TheVariants.{Discover}
 use Rattle.geo_cli.specs.declared.order.Order.{Order}
-use Rattle.geo_cli.specs.Due.{IsCommandDue, IsDue, IsDueForSearch, IsReadDue}
+use Rattle.geo_cli.specs.Due.{IsCommandDue, IsDue, IsReadDue, due_for}
 use Rattle.geo_cli.specs.Input.{program_limit}
 use Rattle.geo_cli.specs.Run.{Begins, Ends, IsAnswered, IsBrokenOff, SearchesBegun}
 use Rattle.geo_cli.specs.Words.{IsDiscover}
@@ -20,7 +20,7 @@ module _ (words : List (List ℕ)) (one : GivesOne words) (steps : ℕ) (given :
   abbrev Begun : Type 0
   Begun = SearchesBegun steps left left' held held'
 
-  read_begun : (due : Due) → IsReadDue program_limit (IsDueForSearch steps) left left' due → Begins due.text held held' → Begun
+  read_begun : (due : Due) → IsReadDue program_limit (due_for Discover steps) left left' due → Begins due.text held held' → Begun
   read_begun due (inl h) b = inr (inr (inr (h.0, subst (λ (d : Due). Begins d.text held held') h.1 b)))
   read_begun due (inr (bytes, input, inl h)) b =
       inr (inl (record {

@@ -1,7 +1,7 @@
 -- What `bench` tells of the log of a generated program.
 use Rattle.std.proofs.Common.{◌≡◌, ℕ, ◌-◌, List, [], ◌∷◌, ◌++◌, length, codes, Option, Result, Ok, Err, refl, sym, ap, subst, ◌∙◌, arith}
 use Rattle.std.specs.Prelude.{IfOk}
-use Rattle.geo_cli.specs.declared.benching.Report.{Report}
+use Rattle.geo_cli.specs.declared.reports.Report.{Report}
 use Rattle.geo_answers.specs.declared.status.Status.TheVariants.{TooLong}
 use Rattle.geo_cli.specs.Due.{IsBenchDue, count_line}
 use Rattle.geo_cli.specs.Inner.Telling.{TellsEnding, stop_report, summary_report}

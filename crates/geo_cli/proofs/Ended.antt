@@ -9,21 +9,20 @@ use Rattle.geo_place.specs.declared.errors.PlaceError.{PlaceError}
 use Rattle.geo_place.specs.declared.errors.PlaceError.TheVariants as placing
 use Rattle.geo_place.specs.declared.placed.Placed.{Placed}
 use Rattle.geo_cli.specs.declared.order.Command.{Command}
-use Rattle.geo_cli.specs.declared.order.Command.TheVariants.{Bench, Check, Cite, Discover, Figure, Fixed, Place, Prove, Text}
+use Rattle.geo_cli.specs.declared.order.Command.TheVariants.{Bench, Discover, Prove}
 use Rattle.geo_cli.specs.declared.order.Order.{Order}
 use Rattle.geo_answers.specs.declared.status.Status.{Status}
 use Rattle.geo_answers.specs.declared.status.Status.TheVariants as status
 use Rattle.geo_answers.specs.Due.{Due, IsAcceptedDue, IsLogDue}
-use Rattle.geo_answers.specs.Status.{ended_status, ending_status, refusal_status, status_at, status_number, stop_status, verdict_status}
-use Rattle.geo_answers.proofs.Numbers.{accepted_log, ending_of_numbers, not_a_verdict, refusal_number, verdict_of_numbers}
-use Rattle.geo_cli.specs.Due.{IsBenchDue, IsCalledFor, IsCommandDue, IsDue, IsDueForValues, IsFixedDue}
+use Rattle.geo_answers.specs.Status.{ended_status, ending_status, status_at, status_number, stop_status, verdict_status}
+use Rattle.geo_answers.proofs.Numbers.{accepted_log, ending_of_numbers, not_a_verdict, verdict_of_numbers}
+use Rattle.geo_cli.specs.Due.{IsBenchDue, IsCalledFor, IsDueForValues, IsFixedDue}
 use Rattle.geo_cli.specs.Due.{IsSearchDue}
 use Rattle.geo_cli.specs.Due.{IsRestDue, TellsAnswer, TellsDrawing, TellsFixed, TellsUncited, bench_text, fixed_line, usage_line}
 use Rattle.geo_cli.specs.Inner.Answering.{AnswersCommand, HasNumber}
 use Rattle.geo_cli.specs.Input.{IsInput, Takes, limit_of, log_limit, program_limit}
 use Rattle.geo_cli.specs.Orders.{IsOrder, IsRow, TellsSteps}
-use Rattle.geo_cli.specs.Run.{BenchesLog, ChecksLog, Ends, FindsImpossibleByLog, FixesByLog, IsAnswered, IsCutShort, ProvesByLog, VerdictAccepted}
-use Rattle.geo_cli.specs.Run.{VerdictTells}
+use Rattle.geo_cli.specs.Run.{BenchesLog, ChecksLog, Ends, FindsImpossibleByLog, FixesByLog, IsAnswered, ProvesByLog}
 use Rattle.geo_cli.specs.Status.{search_status}
 use Rattle.geo_cli.specs.Words.{IsBenchOf, IsCheck, IsDiscover, IsFixed, IsNoCommand, IsProve, ReadsNothing}
 use Rattle.geo_cli.proofs.OneDue.{GivesOne, called_is_due}
@@ -35,7 +34,6 @@ use Rattle.geo_discover.proofs.NoPlacement.{impossible_lines, impossible_searche
 use Rattle.geo_library.specs.declared.errors.CiteError.{CiteError}
 use Rattle.geo_library.specs.declared.errors.CiteError.TheVariants as citing
 use Rattle.geo_logs.specs.Ends.{Ending, ends_by, ends_with, too_long}
-use Rattle.geo_logs.specs.Judging.{Refusal}
 use Rattle.geo_logs.specs.Moves.{Stop, spent, too_large}
 use Rattle.geo_program.specs.Programs.{source_of}
 use Rattle.geo_program.specs.WellFormed.{Source}
@@ -54,7 +52,7 @@ pub differ : (s t : Status) (P : Type 0) → s ≡ t → (status_number s ≡ st
 differ s t P same apart = absurd (apart (ap status_number same))
 
 -- a status that tells no verdict
-no_verdict : (v : Verdict) (s : Status) (P : Type 0) → s ≡ verdict_status v → 3 ≤ status_number s → P
+pub no_verdict : (v : Verdict) (s : Status) (P : Type 0) → s ≡ verdict_status v → 3 ≤ status_number s → P
 no_verdict v s P is h = not_a_verdict v (status_number s) P (ap status_number is) h
 
 -- verdicts are told by their statuses
@@ -82,10 +80,6 @@ ends_so verdict lines ending says = ending_of_numbers verdict lines ending (ap s
 no_stop : (v : Verdict) (n : ℕ) (stop : Stop) (P : Type 0) → stop_status n stop ≡ verdict_status v → P
 no_stop v n spent P says = no_verdict v (stop_status n spent) P says (omega arith)
 no_stop v n (too_large which) P says = no_verdict v (stop_status n (too_large which)) P says (omega arith)
-
--- a refusal tells no verdict
-no_refusal : (v : Verdict) (n : ℕ) (r : Refusal) (P : Type 0) → refusal_status n r ≡ verdict_status v → P
-no_refusal v n r P says = no_verdict v (refusal_status n r) P says (refusal_number n r).0
 
 -- values and a program call for no verdict, and tell nothing of instances
 abbrev IsBetween : Due → Type 0
@@ -137,16 +131,9 @@ uncited_number (citing.Spent line) due h =
     apart due _ h (record { verdict = omega arith; done = λ e. omega (arith, e); unmet = λ e. omega (arith, e) })
 uncited_number citing.NoMemory due h = absurd h
 
--- the status that is due, where it is that of the run
-pub due_says : (due other : Due) (s t : Status) → s ≡ due.status → due ≡ other → s ≡ t → other.status ≡ t
-due_says due other s t answered is says = ap (λ (d : Due). d.status) (sym is) ∙ sym answered ∙ says
-
 module _ (words : List (List ℕ)) (left left' held held' : Option (List ℕ)) (verdict : Verdict) where
-  abbrev Decided : Type 0
-  Decided = VerdictAccepted words left left' held held' verdict
-
   -- a log that was written and ends with this verdict
-  log_proves : (steps : ℕ) → IsProve words steps → (bytes : List ℕ) → IsInput program_limit left bytes left' → (due : Due) (log : IsLogDue steps bytes due)
+  pub log_proves : (steps : ℕ) → IsProve words steps → (bytes : List ℕ) → IsInput program_limit left bytes left' → (due : Due) (log : IsLogDue steps bytes due)
       → ending_status log.lines log.ending ≡ verdict_status verdict → Grows held due.text held' → ProvesByLog words left left' held held' verdict
   log_proves steps command bytes input due log says written =
       let ends = ends_so verdict log.lines log.ending says in
@@ -170,7 +157,7 @@ module _ (words : List (List ℕ)) (left left' held held' : Option (List ℕ)) (
       }
 
   -- a log that was read and is accepted with this verdict
-  log_checks : (steps : ℕ) → IsCheck words steps → (bytes : List ℕ) → IsInput log_limit left bytes left' → (due : Due) (h : IsAcceptedDue steps bytes due)
+  pub log_checks : (steps : ℕ) → IsCheck words steps → (bytes : List ℕ) → IsInput log_limit left bytes left' → (due : Due) (h : IsAcceptedDue steps bytes due)
       → verdict_status h.verdict ≡ verdict_status verdict → ChecksLog words left left' verdict
   log_checks steps command bytes input due h says =
       let accepted : Accepts bytes steps h.program verdict = subst (Accepts bytes steps h.program) (same_verdict h.verdict verdict says) h.accepted in
@@ -187,7 +174,7 @@ module _ (words : List (List ℕ)) (left left' held held' : Option (List ℕ)) (
       }
 
   -- the log of a generated program, which ends with this verdict
-  log_benches : (number steps : ℕ) → IsBenchOf words number steps → (due : Due) (h : IsBenchDue number steps due)
+  pub log_benches : (number steps : ℕ) → IsBenchOf words number steps → (due : Due) (h : IsBenchDue number steps due)
       → ending_status h.lines h.ending ≡ verdict_status verdict → Grows held due.text held' → BenchesLog words held held' verdict
   log_benches number steps command due h says written =
       let ends = ends_so verdict h.lines h.ending says in
@@ -217,7 +204,7 @@ module _ (words : List (List ℕ)) (left left' held held' : Option (List ℕ)) (
       }
 
   -- the log in the fixed frame, which ends with this verdict
-  log_fixes : (steps : ℕ) → IsFixed words steps → (bytes : List ℕ) → IsInput program_limit left bytes left' → (due : Due) (h : IsFixedDue steps bytes due)
+  pub log_fixes : (steps : ℕ) → IsFixed words steps → (bytes : List ℕ) → IsInput program_limit left bytes left' → (due : Due) (h : IsFixedDue steps bytes due)
       → due.status ≡ verdict_status verdict → Grows held due.text held' → FixesByLog words left left' held held' verdict
   log_fixes steps command bytes input due h says written = by h.tells
     where
@@ -242,7 +229,7 @@ module _ (words : List (List ℕ)) (left left' held held' : Option (List ℕ)) (
       by (inr (stop, n, stops, is)) = no_stop verdict n stop _ (sym (ap (λ (d : Due). d.status) is) ∙ says)
 
   -- the search, which says that a condition is never met
-  search_finds : (steps : ℕ) → IsDiscover words steps → (bytes : List ℕ) → IsInput program_limit left bytes left' → (due : Due)
+  pub search_finds : (steps : ℕ) → IsDiscover words steps → (bytes : List ℕ) → IsInput program_limit left bytes left' → (due : Due)
       (h : IsSearchDue steps bytes due)
       → due.status ≡ verdict_status verdict → Grows held due.text held' → FindsImpossibleByLog words left left' held held' verdict
   search_finds steps command bytes input due h says written =
@@ -287,90 +274,6 @@ module _ (words : List (List ℕ)) (left left' held held' : Option (List ℕ)) (
       by (open_by ending n) searched grown is = ended n ending _ (open_ends p steps n h.lines ending searched) is
       by cut searched grown is = no_verdict verdict status.TooLong _ is (omega arith)
 
-  command_decides : (command : Command) (steps : ℕ) → IsOrder words (record { command = command; steps = steps }) → (due : Due) (s : Status)
-      → s ≡ due.status → Grows held due.text held' → s ≡ verdict_status verdict → IsCommandDue command steps left left' due → Decided
-  command_decides Prove steps given due s answered written says (inl h) =
-      no_verdict verdict status.TooLong _ (due_says due _ s _ answered h.1 says) (omega arith)
-  command_decides Prove steps given due s answered written says (inr (bytes, input, inl log)) =
-      inl (log_proves steps given bytes input due log (due_says due _ s _ answered log.is says) written)
-  command_decides Prove steps given due s answered written says (inr (bytes, input, inr refusal)) =
-      no_verdict verdict (status.Syntax refusal.fault.refusal refusal.fault.place) _ (due_says due _ s _ answered refusal.is says) (omega arith)
-  command_decides Check steps given due s answered written says (inl h) =
-      no_verdict verdict status.TooLong _ (due_says due _ s _ answered h.1 says) (omega arith)
-  command_decides Check steps given due s answered written says (inr (bytes, input, inl h)) =
-      inr (inl (log_checks steps given bytes input due h (due_says due _ s _ answered h.is says)))
-  command_decides Check steps given due s answered written says (inr (bytes, input, inr h)) =
-      no_refusal verdict h.number h.refusal _ (due_says due _ s _ answered h.is says)
-  command_decides Text steps given due s answered written says (inl h) =
-      no_verdict verdict status.TooLong _ (due_says due _ s _ answered h.1 says) (omega arith)
-  command_decides Text steps given due s answered written says (inr (bytes, input, inl h)) =
-      no_verdict verdict status.Done _ (due_says due _ s _ answered h.is says) (omega arith)
-  command_decides Text steps given due s answered written says (inr (bytes, input, inr h)) =
-      no_refusal verdict h.number h.refusal _ (due_says due _ s _ answered h.is says)
-  command_decides Place steps given due s answered written says (inl h) =
-      no_verdict verdict status.TooLong _ (due_says due _ s _ answered h.1 says) (omega arith)
-  command_decides Place steps given due s answered written says (inr (bytes, input, h)) =
-      no_verdict verdict due.status _ (sym answered ∙ says) (values_number false bytes due h).0
-  command_decides Figure steps given due s answered written says (inl h) =
-      no_verdict verdict status.TooLong _ (due_says due _ s _ answered h.1 says) (omega arith)
-  command_decides Figure steps given due s answered written says (inr (bytes, input, h)) =
-      no_verdict verdict due.status _ (sym answered ∙ says) (values_number true bytes due h).0
-  command_decides Cite steps given due s answered written says (inl h) =
-      no_verdict verdict status.TooLong _ (due_says due _ s _ answered h.1 says) (omega arith)
-  command_decides Cite steps given due s answered written says (inr (bytes, input, inl h)) =
-      no_verdict verdict status.Done _ (due_says due _ s _ answered h.is says) (omega arith)
-  command_decides Cite steps given due s answered written says (inr (bytes, input, inr h)) =
-      no_verdict verdict due.status _ (sym answered ∙ says) (uncited_number h.error due h.is).verdict
-  command_decides Fixed steps given due s answered written says (inl h) =
-      no_verdict verdict status.TooLong _ (due_says due _ s _ answered h.1 says) (omega arith)
-  command_decides Fixed steps given due s answered written says (inr (bytes, input, inl h)) =
-      inr (inr (inr (inl (log_fixes steps given bytes input due h (sym answered ∙ says) written))))
-  command_decides Fixed steps given due s answered written says (inr (bytes, input, inr refusal)) =
-      no_verdict verdict (status.Syntax refusal.fault.refusal refusal.fault.place) _ (due_says due _ s _ answered refusal.is says) (omega arith)
-  command_decides Discover steps given due s answered written says (inl h) =
-      no_verdict verdict status.TooLong _ (due_says due _ s _ answered h.1 says) (omega arith)
-  command_decides Discover steps given due s answered written says (inr (bytes, input, inl h)) =
-      inr (inr (inr (inr (search_finds steps given bytes input due h (sym answered ∙ says) written))))
-  command_decides Discover steps given due s answered written says (inr (bytes, input, inr refusal)) =
-      no_verdict verdict (status.Syntax refusal.fault.refusal refusal.fault.place) _ (due_says due _ s _ answered refusal.is says) (omega arith)
-  command_decides (Bench number) steps given due s answered written says (unread, h) =
-      inr (inr (inl (log_benches number steps given due h (due_says due _ s _ answered h.is says) written)))
-
-  due_decides : (due : Due) (s : Status) → IsDue words left left' due → s ≡ due.status → Grows held due.text held' → s ≡ verdict_status verdict → Decided
-  due_decides due s (inl h) answered written says =
-      no_verdict verdict status.Usage _ (due_says due _ s _ answered h.is says) (omega arith)
-  due_decides due s (inr h) answered written says =
-      command_decides h.order.command h.order.steps h.given due s answered written says h.of_command
-
-  cut_decides : (s : Status) (faults faults' : ℕ) (P : Type 0) → IsCutShort s faults faults' → s ≡ verdict_status verdict → P
-  cut_decides s faults faults' P (inl h) says = no_verdict verdict status.WriteFault P (sym h.0 ∙ says) (omega arith)
-  cut_decides s faults faults' P (inr h) says = no_verdict verdict status.NoMemory P (sym h ∙ says) (omega arith)
-
-  -- a run that answers the verdict
-  pub accepts : (source_faults source_faults' faults faults' : ℕ) (s : Status)
-      → Ends words left left' source_faults source_faults' faults faults' held held' s → s ≡ verdict_status verdict
-      → VerdictAccepted words left left' held held' verdict
-  accepts g g' f f' s (inl h) says = by_answer h.answered
-    where
-      by_answer : IsAnswered h.due s f f' held held' → Decided
-      by_answer (inl a) = due_decides h.due s h.cause a.0 a.1 says
-      by_answer (inr a) = cut_decides s f f' _ a.0 says
-  accepts g g' f f' s (inr (inl h)) says = no_verdict verdict status.ReadFault _ (sym h.is ∙ says) (omega arith)
-  accepts g g' f f' s (inr (inr h)) says = no_verdict verdict status.NoMemory _ (sym h.is ∙ says) (omega arith)
-
-  -- what the log tells of truth
-  tells : Decided → VerdictTells words left left' held held' verdict
-  tells (inl h) = inl h.proves
-  tells (inr (inl h)) = inr (inl h.checks)
-  tells (inr (inr (inl h))) = inr (inr (inl h.benches))
-  tells (inr (inr (inr (inl h)))) = inr (inr (inr (inl h.fixes)))
-  tells (inr (inr (inr (inr h)))) = inr (inr (inr (inr h.finds)))
-
-  pub decides : (source_faults source_faults' faults faults' : ℕ) (s : Status)
-      → Ends words left left' source_faults source_faults' faults faults' held held' s → s ≡ verdict_status verdict
-      → VerdictTells words left left' held held' verdict
-  decides g g' f f' s h says = tells (accepts g g' f f' s h says)
-
 -- COMPLETENESS
 module _ (words : List (List ℕ)) (one : GivesOne words) (left left' held held' : Option (List ℕ)) where
   -- a run with no fault answers what is called for, or runs out of memory
@@ -406,15 +309,8 @@ no_order words answer complete is order given = let no : ◌≡◌ {A = Option O
 -- WORDS THAT ARE A COMMAND
 -- the number of a generated program
 pub has_number : (words : List (List ℕ)) (command : Command) → IsRow words command → HasNumber command
-has_number words Prove row = tt
-has_number words Check row = tt
-has_number words Text row = tt
-has_number words Place row = tt
-has_number words Figure row = tt
-has_number words Cite row = tt
-has_number words Fixed row = tt
-has_number words Discover row = tt
 has_number words (Bench number) (text, is, written, some, few) = (some, few)
+has_number words command row = tt
 
 module _ (words : List (List ℕ)) (one : GivesOne words) (order : Order) (given : IsOrder words order) where
   -- which command it is

@@ -1,13 +1,13 @@
 -- What a run of `discover` tells where some candidate is open, or its text is too long.
-use Rattle.std.proofs.Common.{◌≡◌, ℕ, ◌⊎◌, inl, inr, List, Option, sym, ap, subst, ◌∙◌}
+use Rattle.std.proofs.Common.{◌≡◌, ℕ, inl, inr, List, Option, ap, subst, ◌∙◌}
 use Rattle.geo_base.specs.Devices.{Grows}
 use Rattle.geo_cli.specs.declared.order.Command.TheVariants.{Discover}
 use Rattle.geo_cli.specs.declared.order.Order.{Order}
 use Rattle.geo_answers.specs.declared.status.Status.{Status}
 use Rattle.geo_answers.specs.Due.{Due}
-use Rattle.geo_cli.specs.Due.{IsCommandDue, IsDue, IsDueForSearch, IsReadDue}
+use Rattle.geo_cli.specs.Due.{IsCommandDue, IsDue, IsReadDue, due_for}
 use Rattle.geo_cli.specs.Input.{program_limit}
-use Rattle.geo_cli.specs.Run.{Ends, IsAnswered, IsCutShort, IsStopStatus, SearchesInPart}
+use Rattle.geo_cli.specs.Run.{Ends, IsAnswered, IsStopStatus, SearchesInPart}
 use Rattle.geo_cli.specs.Words.{IsDiscover}
 use Rattle.geo_cli.proofs.Ended.{few_steps}
 use Rattle.geo_cli.proofs.OneDue.{GivesOne}
@@ -23,7 +23,7 @@ module _ (words : List (List ℕ)) (one : GivesOne words) (steps : ℕ) (given :
   finished : {A : Type 0} (other : Status) → s ≡ other → (IsStopStatus other → ⊥) → A
   finished other is none = absurd (none (subst IsStopStatus is unfinished))
 
-  read_in_part : (due : Due) → IsReadDue program_limit (IsDueForSearch steps) left left' due → s ≡ due.status → Grows held due.text held' → Told
+  read_in_part : (due : Due) → IsReadDue program_limit (due_for Discover steps) left left' due → s ≡ due.status → Grows held due.text held' → Told
   read_in_part due (inl h) is written = inl (h.0, is ∙ ap (λ (d : Due). d.status) h.1)
   read_in_part due (inr (bytes, input, inl h)) is written =
       inr (record {

@@ -3,13 +3,12 @@ pub mod OrderLemmas
 pub mod FaultPlaces
 pub mod ValuesDue
 pub mod CitationsDue
-pub mod FixedDue
-pub mod SearchDue
 pub mod OneDue
 pub mod SomeLine
 pub mod SomeValues
 pub mod SomeDue
 pub mod Answered
+pub mod ProgramsDue
 pub mod ReadLogs
 pub mod Reported
 pub mod Benched
@@ -17,5 +16,6 @@ pub mod Ended
 pub mod Decisive
 pub mod Placed
 pub mod Uncited
+pub mod Told
 pub mod InPart
 pub mod Begun

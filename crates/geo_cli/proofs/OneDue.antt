@@ -28,11 +28,11 @@ use Rattle.geo_answers.specs.declared.status.Status.TheVariants.{Done, Syntax}
 use Rattle.geo_answers.specs.Due.{Due}
 use Rattle.geo_answers.specs.Status.{ending_status, refusal_status, verdict_status}
 use Rattle.geo_answers.proofs.OneDue.{one_accepted_due, one_log_due, one_readable_due}
-use Rattle.geo_cli.specs.Due.{IsBenchDue, IsCalledFor, IsCommandCall, IsCommandDue, IsDue, IsDueFor, IsDueForCitation}
-use Rattle.geo_cli.specs.Due.{IsDueForFixed, IsDueForLog, IsDueForSearch, IsDueForText, IsDueForValues, IsFixedDue, IsReadCall, IsReadDue}
+use Rattle.geo_cli.specs.Due.{IsBenchDue, IsCalledFor, IsCommandCall, IsCommandDue, IsDue, due_for}
+use Rattle.geo_cli.specs.Due.{IsDueForValues, IsFixedDue, IsReadCall, IsReadDue}
 use Rattle.geo_cli.specs.Due.{IsRefusalDue, IsRejectionDue, IsRestDue, IsSearchDue, IsValuesDue, TellsAnswer, TellsDrawing, TellsUncited}
 use Rattle.geo_cli.specs.Due.{TellsFixed, bench_text, cited_line, fault_due, fixed_line, refusal_line, stop_due, syntax_line}
-use Rattle.geo_cli.specs.Input.{IsInput, IsLong, log_limit, program_limit}
+use Rattle.geo_cli.specs.Input.{IsInput, IsLong, limit_of}
 use Rattle.geo_cli.specs.Orders.{IsOrder}
 use Rattle.geo_cli.specs.Status.{search_status}
 use Rattle.geo_lowering.specs.declared.version.Version.TheVariants.{Two}
@@ -92,7 +92,7 @@ one_refusal_due bytes due other h g =
     h.is ∙ (λ i. record { text = syntax_line (same i); status = Syntax (same i).refusal (same i).place }) ∙ sym g.is
 
 -- one thing is due at most for an input
-one_due_for : (steps : ℕ) (bytes : List ℕ) (due other : Due) → IsDueFor steps bytes due → IsDueFor steps bytes other → due ≡ other
+one_due_for : (steps : ℕ) (bytes : List ℕ) (due other : Due) → due_for Prove steps bytes due → due_for Prove steps bytes other → due ≡ other
 one_due_for steps bytes due other (inl h) (inl g) = one_log_due steps bytes due other h g
 one_due_for steps bytes due other (inl h) (inr g) = absurd (g.no_program.spells_none h.program h.spelt)
 one_due_for steps bytes due other (inr h) (inl g) = absurd (h.no_program.spells_none g.program g.spelt)
@@ -107,7 +107,7 @@ one_rejection_due steps bytes due other h g =
     h.is ∙ (λ i. record { text = refusal_line (same.0 i) (same.1 i); status = refusal_status (same.0 i) (same.1 i) }) ∙ sym g.is
 
 -- one thing is due at most for a log
-one_due_for_log : (steps : ℕ) (bytes : List ℕ) (due other : Due) → IsDueForLog steps bytes due → IsDueForLog steps bytes other → due ≡ other
+one_due_for_log : (steps : ℕ) (bytes : List ℕ) (due other : Due) → due_for Check steps bytes due → due_for Check steps bytes other → due ≡ other
 one_due_for_log steps bytes due other (inl h) (inl g) = one_accepted_due steps bytes due other h g
 one_due_for_log steps bytes due other (inl h) (inr g) =
     absurd (accepted_bytes_are_not_refused bytes steps g.number h.program h.verdict g.refusal h.accepted g.refused)
@@ -116,7 +116,7 @@ one_due_for_log steps bytes due other (inr h) (inl g) =
 one_due_for_log steps bytes due other (inr h) (inr g) = one_rejection_due steps bytes due other h g
 
 -- one thing is due at most for a log that is to be printed
-one_due_for_text : (steps : ℕ) (bytes : List ℕ) (due other : Due) → IsDueForText steps bytes due → IsDueForText steps bytes other → due ≡ other
+one_due_for_text : (steps : ℕ) (bytes : List ℕ) (due other : Due) → due_for Text steps bytes due → due_for Text steps bytes other → due ≡ other
 one_due_for_text steps bytes due other (inl h) (inl g) = one_readable_due steps bytes due other h g
 one_due_for_text steps bytes due other (inl h) (inr g) =
     let r = h.readable in absurd (accepted_bytes_are_not_refused bytes steps g.number r.program r.verdict g.refusal r.accepted g.refused)
@@ -203,7 +203,7 @@ uncited_memory : (error : CiteError) (due : Due) → TellsUncited error due → 
 uncited_memory error due h e = subst (λ (x : CiteError). TellsUncited x due) e h
 
 -- one thing is due at most for a log, names and a program
-one_due_for_citation : (steps : ℕ) (bytes : List ℕ) (due other : Due) → IsDueForCitation steps bytes due → IsDueForCitation steps bytes other → due ≡ other
+one_due_for_citation : (steps : ℕ) (bytes : List ℕ) (due other : Due) → due_for Cite steps bytes due → due_for Cite steps bytes other → due ≡ other
 one_due_for_citation steps bytes due other (inl h) (inl g) =
     let same : h.text ≡ g.text = cited_or_missed.cited bytes steps h.text g.text h.cites g.cites in
     h.is ∙ (λ i. record { text = cited_line (same i); status = Done }) ∙ sym g.is
@@ -216,36 +216,6 @@ one_due_for_citation steps bytes due other (inr h) (inr g) =
     (uncited_memory g.error other g.is) h.refused g.refused in
     one_uncited g.error due other (subst (λ (x : CiteError). TellsUncited x due) same h.is) g.is
 
--- WHAT A PROGRAM CALLS FOR IN THE FIXED FRAME
-
--- how the logs of programs with the same lines end calls for one line
-one_fixed : (p q : Source) (steps : ℕ) (due other : Due) → IsWellFormed p → IsWellFormed q → source_lines p ≡ source_lines q
-    → TellsFixed p steps due → TellsFixed q steps other → due ≡ other
-one_fixed p q steps due other w v e (inl (verdict, h, is)) (inl (verdict', g, is')) =
-    let same : verdict ≡ verdict' = fixed_ends_agree.verdicts p q steps w v e verdict verdict' h g in
-    is ∙ (λ i. record { text = fixed_line (same i); status = verdict_status (same i) }) ∙ sym is'
-one_fixed p q steps due other w v e (inl (verdict, h, is)) (inr (stop, n, g, is')) =
-    absurd (fixed_ends_agree.verdict_or_stop p q steps w v e verdict stop n h g)
-one_fixed p q steps due other w v e (inr (stop, n, h, is)) (inl (verdict, g, is')) =
-    absurd (fixed_ends_agree.verdict_or_stop q p steps v w (sym e) verdict stop n g h)
-one_fixed p q steps due other w v e (inr (stop, n, h, is)) (inr (stop', m, g, is')) =
-    let same = fixed_ends_agree.stops p q steps w v e stop stop' n m h g in
-    is ∙ (λ i. stop_due (same.1 i) (same.0 i)) ∙ sym is'
-
-one_fixed_due : (steps : ℕ) (bytes : List ℕ) (due other : Due) → IsFixedDue steps bytes due → IsFixedDue steps bytes other → due ≡ other
-one_fixed_due steps bytes due other h g =
-    let p = source_of h.program in
-    let q = source_of g.program in
-    let same : source_lines p ≡ source_lines q = ap (map line_text) (same_lines p q (spells_one bytes p q h.spelt g.spelt)) in
-    one_fixed p q steps due other h.spelt.well_formed g.spelt.well_formed same h.tells g.tells
-
--- one thing is due at most for a program
-one_due_for_fixed : (steps : ℕ) (bytes : List ℕ) (due other : Due) → IsDueForFixed steps bytes due → IsDueForFixed steps bytes other → due ≡ other
-one_due_for_fixed steps bytes due other (inl h) (inl g) = one_fixed_due steps bytes due other h g
-one_due_for_fixed steps bytes due other (inl h) (inr g) = absurd (g.no_program.spells_none h.program h.spelt)
-one_due_for_fixed steps bytes due other (inr h) (inl g) = absurd (h.no_program.spells_none g.program g.spelt)
-one_due_for_fixed steps bytes due other (inr h) (inr g) = one_refusal_due bytes due other h g
-
 -- WHAT A PROGRAM CALLS FOR WHOSE RELATIONS ARE SOUGHT
 
 one_search_due : (steps : ℕ) (bytes : List ℕ) (due other : Due) → IsSearchDue steps bytes due → IsSearchDue steps bytes other → due ≡ other
@@ -257,7 +227,7 @@ one_search_due steps bytes due other h g =
     h.is ∙ (λ i. record { text = with_feeds (same.0 i); status = search_status (same.1 i) }) ∙ sym g.is
 
 -- one thing is due at most for a program
-one_due_for_search : (steps : ℕ) (bytes : List ℕ) (due other : Due) → IsDueForSearch steps bytes due → IsDueForSearch steps bytes other
+one_due_for_search : (steps : ℕ) (bytes : List ℕ) (due other : Due) → due_for Discover steps bytes due → due_for Discover steps bytes other
     → due ≡ other
 one_due_for_search steps bytes due other (inl h) (inl g) = one_search_due steps bytes due other h g
 one_due_for_search steps bytes due other (inl h) (inr g) = absurd (g.no_program.spells_none h.program h.spelt)
@@ -306,6 +276,49 @@ one_bench_due number steps due other h g =
     ∙ (λ i. record { text = bench_text number (points i) steps (one.0 i) (one.1 i); status = ending_status (one.0 i) (one.1 i) })
     ∙ sym g.is
 
+-- WHAT A PROGRAM CALLS FOR IN THE FIXED FRAME
+
+-- how the logs of programs with the same lines end calls for one line
+one_fixed : (p q : Source) (steps : ℕ) (due other : Due) → IsWellFormed p → IsWellFormed q → source_lines p ≡ source_lines q
+    → TellsFixed p steps due → TellsFixed q steps other → due ≡ other
+one_fixed p q steps due other w v e (inl (verdict, h, is)) (inl (verdict', g, is')) =
+    let same : verdict ≡ verdict' = fixed_ends_agree.verdicts p q steps w v e verdict verdict' h g in
+    is ∙ (λ i. record { text = fixed_line (same i); status = verdict_status (same i) }) ∙ sym is'
+one_fixed p q steps due other w v e (inl (verdict, h, is)) (inr (stop, n, g, is')) =
+    absurd (fixed_ends_agree.verdict_or_stop p q steps w v e verdict stop n h g)
+one_fixed p q steps due other w v e (inr (stop, n, h, is)) (inl (verdict, g, is')) =
+    absurd (fixed_ends_agree.verdict_or_stop q p steps v w (sym e) verdict stop n g h)
+one_fixed p q steps due other w v e (inr (stop, n, h, is)) (inr (stop', m, g, is')) =
+    let same = fixed_ends_agree.stops p q steps w v e stop stop' n m h g in
+    is ∙ (λ i. stop_due (same.1 i) (same.0 i)) ∙ sym is'
+
+one_fixed_due : (steps : ℕ) (bytes : List ℕ) (due other : Due) → IsFixedDue steps bytes due → IsFixedDue steps bytes other → due ≡ other
+one_fixed_due steps bytes due other h g =
+    let p = source_of h.program in
+    let q = source_of g.program in
+    let same : source_lines p ≡ source_lines q = ap (map line_text) (same_lines p q (spells_one bytes p q h.spelt g.spelt)) in
+    one_fixed p q steps due other h.spelt.well_formed g.spelt.well_formed same h.tells g.tells
+
+-- one thing is due at most for a program
+one_due_for_fixed : (steps : ℕ) (bytes : List ℕ) (due other : Due) → due_for Fixed steps bytes due → due_for Fixed steps bytes other → due ≡ other
+one_due_for_fixed steps bytes due other (inl h) (inl g) = one_fixed_due steps bytes due other h g
+one_due_for_fixed steps bytes due other (inl h) (inr g) = absurd (g.no_program.spells_none h.program h.spelt)
+one_due_for_fixed steps bytes due other (inr h) (inl g) = absurd (h.no_program.spells_none g.program g.spelt)
+one_due_for_fixed steps bytes due other (inr h) (inr g) = one_refusal_due bytes due other h g
+
+-- one thing is due at most for what a command reads
+one_due : (command : Command) (steps : ℕ) (bytes : List ℕ) (due other : Due) → due_for command steps bytes due → due_for command steps bytes other
+    → due ≡ other
+one_due Prove steps bytes = one_due_for steps bytes
+one_due Fixed steps bytes = one_due_for_fixed steps bytes
+one_due Discover steps bytes = one_due_for_search steps bytes
+one_due Place steps bytes = one_due_for_values false bytes
+one_due Figure steps bytes = one_due_for_values true bytes
+one_due Check steps bytes = one_due_for_log steps bytes
+one_due Text steps bytes = one_due_for_text steps bytes
+one_due Cite steps bytes = one_due_for_citation steps bytes
+one_due (Bench number) steps bytes = one_bench_due number steps
+
 -- WHAT THE WORDS CALL FOR
 
 -- the words give one order at most
@@ -325,16 +338,9 @@ one_read limit For one (Some bytes) left' due other (inr h) (inr g) =
 
 one_command : (command : Command) (steps : ℕ) (left left' : Option (List ℕ)) (due other : Due) → IsCommandCall command steps left due
     → IsCommandDue command steps left left' other → due ≡ other
-one_command Prove steps left left' due other h g = one_read program_limit (IsDueFor steps) (one_due_for steps) left left' due other h g
-one_command Check steps left left' due other h g = one_read log_limit (IsDueForLog steps) (one_due_for_log steps) left left' due other h g
-one_command Text steps left left' due other h g = one_read log_limit (IsDueForText steps) (one_due_for_text steps) left left' due other h g
-one_command Place steps left left' due other h g = one_read program_limit (IsDueForValues false) (one_due_for_values false) left left' due other h g
-one_command Figure steps left left' due other h g = one_read program_limit (IsDueForValues true) (one_due_for_values true) left left' due other h g
-one_command Cite steps left left' due other h g = one_read log_limit (IsDueForCitation steps) (one_due_for_citation steps) left left' due other h g
-one_command Fixed steps left left' due other h g = one_read program_limit (IsDueForFixed steps) (one_due_for_fixed steps) left left' due other h g
-one_command Discover steps left left' due other h g =
-    one_read program_limit (IsDueForSearch steps) (one_due_for_search steps) left left' due other h g
 one_command (Bench number) steps left left' due other h g = one_bench_due number steps due other h g.1
+one_command command steps left left' due other h g =
+    one_read (limit_of command) (due_for command steps) (one_due command steps) left left' due other h g
 
 -- two things that a command calls for are one
 one_call : (limit : ℕ) (For : List ℕ → Due → Type 0) → ((bytes : List ℕ) (due other : Due) → For bytes due → For bytes other → due ≡ other)
@@ -347,15 +353,8 @@ one_call limit For one (Some bytes) due other (inr h) (inr g) = one bytes due ot
 
 calls_one : (command : Command) (steps : ℕ) (left : Option (List ℕ)) (due other : Due) → IsCommandCall command steps left due
     → IsCommandCall command steps left other → due ≡ other
-calls_one Prove steps left due other h g = one_call program_limit (IsDueFor steps) (one_due_for steps) left due other h g
-calls_one Check steps left due other h g = one_call log_limit (IsDueForLog steps) (one_due_for_log steps) left due other h g
-calls_one Text steps left due other h g = one_call log_limit (IsDueForText steps) (one_due_for_text steps) left due other h g
-calls_one Place steps left due other h g = one_call program_limit (IsDueForValues false) (one_due_for_values false) left due other h g
-calls_one Figure steps left due other h g = one_call program_limit (IsDueForValues true) (one_due_for_values true) left due other h g
-calls_one Cite steps left due other h g = one_call log_limit (IsDueForCitation steps) (one_due_for_citation steps) left due other h g
-calls_one Fixed steps left due other h g = one_call program_limit (IsDueForFixed steps) (one_due_for_fixed steps) left due other h g
-calls_one Discover steps left due other h g = one_call program_limit (IsDueForSearch steps) (one_due_for_search steps) left due other h g
 calls_one (Bench number) steps left due other h g = one_bench_due number steps due other h g
+calls_one command steps left due other h g = one_call (limit_of command) (due_for command steps) (one_due command steps) left due other h g
 
 -- two things that are called for are one
 pub one_is_called : (words : List (List ℕ)) → GivesOne words → (left : Option (List ℕ)) (due other : Due) → IsCalledFor words left due

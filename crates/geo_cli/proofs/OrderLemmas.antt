@@ -10,7 +10,7 @@ use Rattle.std.proofs.lemmas.Bool.{ne_eqb}
 use Rattle.std.proofs.lemmas.List.{get_or_append_left, get_or_at, get_or-map, take-append-drop, take_at, drop_at, take_all, drop_all, take-map, drop-map, length-map}
 use Rattle.std.proofs.lemmas.List.Sums.{position_or_len_is}
 use Rattle.geo_cli.specs.declared.order.Command.{Command}
-use Rattle.geo_cli.specs.declared.order.Command.TheVariants.{Prove, Check, Text, Bench, Cite, Discover, Figure, Fixed, Place}
+use Rattle.geo_cli.specs.declared.order.Command.TheVariants.{Bench}
 use Rattle.geo_cli.specs.declared.order.Order.{Order}
 use Rattle.geo_cli.specs.Inner.OrderParts.{SplitsOff, front_of, tail_of}
 use Rattle.geo_cli.specs.Orders.{IsOrder, IsRow, TellsSteps}
@@ -26,9 +26,9 @@ numeral_no_minus [] digits = refl
 numeral_no_minus (x ∷ xs) digits =
     ne_eqb x 45 (λ minus. let low : 36 < 10 = subst (λ (n : ℕ). digit_value n < 10) minus digits.1.0 in absurd (omega arith))
 
-one_word : (words : List (List ℕ)) (word : List ℕ) → starts_with_minus word ≡ false → words ≡ word ∷ [] → HasNoOption words
-one_word words word plain is zero = rw is plain
-one_word words word plain is (suc k) = rw is refl
+one_word : (words : List (List ℕ)) (word : List ℕ) → words ≡ word ∷ [] → starts_with_minus word ≡ false → HasNoOption words
+one_word words word is plain zero = rw is plain
+one_word words word is plain (suc k) = rw is refl
 
 two_words : (words : List (List ℕ)) (word text : List ℕ) → starts_with_minus word ≡ false → starts_with_minus text ≡ false → words ≡ word ∷ text ∷ [] → HasNoOption words
 two_words words word text plain too is zero = rw is plain
@@ -37,28 +37,14 @@ two_words words word text plain too is (suc (suc k)) = rw is refl
 
 -- no word of a row begins with `-`
 row_no_option : (words : List (List ℕ)) (command : Command) → IsRow words command → HasNoOption words
-row_no_option words Prove row = one_word words (codes "prove") refl row
-row_no_option words Check row = one_word words (codes "check") refl row
-row_no_option words Text row = one_word words (codes "text") refl row
-row_no_option words Place row = one_word words (codes "place") refl row
-row_no_option words Figure row = one_word words (codes "figure") refl row
-row_no_option words Cite row = one_word words (codes "cite") refl row
-row_no_option words Fixed row = one_word words (codes "fixed") refl row
-row_no_option words Discover row = one_word words (codes "discover") refl row
 row_no_option words (Bench number) (text, is, writes, low, high) =
     two_words words (codes "bench") text refl (numeral_no_minus text writes.digits) is
+row_no_option words command row = one_word words _ row refl
 
 -- a row has at most two words
 pub length-row : (words : List (List ℕ)) (command : Command) → IsRow words command → length words ≤ 2
-length-row words Prove row = rw row (omega arith)
-length-row words Check row = rw row (omega arith)
-length-row words Text row = rw row (omega arith)
-length-row words Place row = rw row (omega arith)
-length-row words Figure row = rw row (omega arith)
-length-row words Cite row = rw row (omega arith)
-length-row words Fixed row = rw row (omega arith)
-length-row words Discover row = rw row (omega arith)
 length-row words (Bench number) (text, is, writes, low, high) = rw is (omega arith)
+length-row words command row = rw row (omega arith)
 
 -- words that are cut at the first that begins with `-`
 pub cut_here : {Z : Type 0} (words : List (String Z)) (i : ℕ) → i ≤ length words

@@ -6,8 +6,9 @@ use Rattle.geo_answers.specs.declared.status.Status.{Status}
 use Rattle.geo_answers.specs.declared.status.Status.TheVariants.{Done}
 use Rattle.geo_answers.specs.Due.{Due, IsAcceptedText}
 use Rattle.geo_answers.specs.Status.{error_status, verdict_status}
-use Rattle.geo_cli.specs.Due.{IsRejectionDue}
-use Rattle.geo_cli.specs.Inner.Answering.{AnswersLog, AnswersRefusal, AnswersText}
+use Rattle.geo_cli.specs.declared.order.Command.TheVariants.{Check, Text}
+use Rattle.geo_cli.specs.Due.{IsRejectionDue, due_for}
+use Rattle.geo_cli.specs.Inner.Answering.{AnswersDue}
 use Rattle.geo_cli.specs.Inner.Judgements.{IsJudgement, IsRefusal, error_line}
 use Rattle.geo_cli.specs.Run.{IsAnswered}
 use Rattle.geo_logs.specs.Judging.{rejected, stopped}
@@ -50,7 +51,7 @@ error_due bytes steps error.NoMemory is h = absurd is
 
 module _ (steps : ℕ) (bytes : List ℕ) (f f' : ℕ) (held held' : Option (List ℕ)) (s : Status) where
   pub refusal_told : (e : CheckError) (text : List ℕ) (status : Status) → IsRefusal e → TellsStop (Refuses bytes steps) e → text ≡ error_line e
-      → status ≡ error_status e → IsAnswered (record { text = text; status = status }) s f f' held held' → AnswersRefusal steps bytes f f' held held' s
+      → status ≡ error_status e → IsAnswered (record { text = text; status = status }) s f f' held held' → AnswersDue (IsRejectionDue steps bytes) f f' held held' s
   refusal_told e text status is h same same' answered =
       inl (
         record { text = error_line e; status = error_status e },
@@ -59,7 +60,7 @@ module _ (steps : ℕ) (bytes : List ℕ) (f f' : ℕ) (held held' : Option (Lis
       )
 
   pub acceptance_told : (p : Source) (verdict : Verdict) (text : List ℕ) (status : Status) → Accepts bytes steps p verdict → IsAcceptedText p verdict text
-      → status ≡ verdict_status verdict → IsAnswered (record { text = text; status = status }) s f f' held held' → AnswersLog steps bytes f f' held held' s
+      → status ≡ verdict_status verdict → IsAnswered (record { text = text; status = status }) s f f' held held' → AnswersDue (due_for Check steps bytes) f f' held held' s
   acceptance_told p verdict text status accepted told same answered =
       inl (
         record { text = text; status = status },
@@ -75,6 +76,6 @@ module _ (steps : ℕ) (bytes : List ℕ) (f f' : ℕ) (held held' : Option (Lis
       )
 
   pub proof_told : (text : List ℕ) → IsReadableProof bytes steps text → IsAnswered (record { text = text; status = Done }) s f f' held held'
-      → AnswersText steps bytes f f' held held' s
+      → AnswersDue (due_for Text steps bytes) f f' held held' s
   proof_told text readable answered =
       inl (record { text = text; status = Done }, inl (record { text = text; readable = readable; is = refl }), answered)

@@ -8,10 +8,10 @@ use Rattle.geo_cli.specs.declared.order.Order.{Order}
 use Rattle.geo_answers.specs.declared.status.Status.TheVariants.{Done, NotInstance, Rejected, Syntax, TooLong}
 use Rattle.geo_answers.specs.Due.{Due, accepted_text}
 use Rattle.geo_answers.specs.Status.{ending_status, refusal_status, verdict_status}
-use Rattle.geo_cli.specs.Due.{HasInput, IsBenchDue, IsCalledFor, IsCommandCall, IsDueFor, IsDueForCitation, IsDueForFixed, IsDueForLog, IsDueForSearch, IsDueForText, IsDueForValues}
+use Rattle.geo_cli.specs.Due.{HasInput, IsBenchDue, IsCalledFor, IsCommandCall, due_for}
 use Rattle.geo_cli.specs.Due.{IsReadCall, IsRefusalDue, IsRejectionDue, TellsFixed, TellsUncited, bench_text, cited_line, fault_due, fixed_line, no_instance_line, refusal_line}
 use Rattle.geo_cli.specs.Due.{rejected_line, stop_due, syntax_line, too_long_line}
-use Rattle.geo_cli.specs.Input.{log_limit, program_limit}
+use Rattle.geo_cli.specs.Input.{limit_of, log_limit, program_limit}
 use Rattle.geo_cli.specs.Orders.{IsOrder}
 use Rattle.geo_cli.specs.Status.{search_status}
 use Rattle.geo_cli.proofs.SomeValues.{values_due}
@@ -77,10 +77,10 @@ fault_told bytes (fault, refused) = (
 )
 
 -- the log of the program, or the line that tells the refusal
-program_due : (steps : ℕ) (bytes : List ℕ) → length bytes ≤ program_limit → (due : Due) × IsDueFor steps bytes due
+program_due : (steps : ℕ) (bytes : List ℕ) → length bytes ≤ program_limit → (due : Due) × due_for Prove steps bytes due
 program_due steps bytes few = by (texts_spell_or_are_refused bytes)
   where
-    by : ((p : Source) × SpellsSource bytes p) ⊎ ((fault : Fault) × IsRefused bytes fault) → (due : Due) × IsDueFor steps bytes due
+    by : ((p : Source) × SpellsSource bytes p) ⊎ ((fault : Fault) × IsRefused bytes fault) → (due : Due) × due_for Prove steps bytes due
     by (inl (p, spelt)) =
         let q = spelt_program bytes p (omega (arith, few)) spelt in
         let small = spelt_short bytes (source_of q.0) q.1 in
@@ -107,11 +107,11 @@ rejected_due steps bytes (number, refusal, refused) = (
   record { number = number; refusal = refusal; refused = refused; is = refl },
 )
 
-log_due : (steps : ℕ) (bytes : List ℕ) → length bytes ≤ log_limit → (due : Due) × IsDueForLog steps bytes due
+log_due : (steps : ℕ) (bytes : List ℕ) → length bytes ≤ log_limit → (due : Due) × due_for Check steps bytes due
 log_due steps bytes few = by (bytes_are_judged bytes steps (omega (arith, few)))
   where
     by : ((p : Source) × (verdict : Verdict) × Accepts bytes steps p verdict) ⊎ ((number : ℕ) × (refusal : Refusal) × Refuses bytes steps number refusal)
-        → (due : Due) × IsDueForLog steps bytes due
+        → (due : Due) × due_for Check steps bytes due
     by (inl (p, verdict, accepted)) =
         let listed = lists_exist.conditions p in
         let conditions = map (condition_item Two p) listed.0 in (
@@ -127,11 +127,11 @@ log_due steps bytes few = by (bytes_are_judged bytes steps (omega (arith, few)))
         )
     by (inr refused) = let due = rejected_due steps bytes refused in (due.0, inr due.1)
 
-text_due : (steps : ℕ) (bytes : List ℕ) → length bytes ≤ log_limit → (due : Due) × IsDueForText steps bytes due
+text_due : (steps : ℕ) (bytes : List ℕ) → length bytes ≤ log_limit → (due : Due) × due_for Text steps bytes due
 text_due steps bytes few = by (bytes_are_judged bytes steps (omega (arith, few)))
   where
     by : ((p : Source) × (verdict : Verdict) × Accepts bytes steps p verdict) ⊎ ((number : ℕ) × (refusal : Refusal) × Refuses bytes steps number refusal)
-        → (due : Due) × IsDueForText steps bytes due
+        → (due : Due) × due_for Text steps bytes due
     by (inl (p, verdict, accepted)) =
         let about = accepted.accepted.about in
         let text = readable (naming_of about.version p) about.form.construction [] accepted.lines in (
@@ -153,7 +153,7 @@ text_due steps bytes few = by (bytes_are_judged bytes steps (omega (arith, few))
     by (inr refused) = let due = rejected_due steps bytes refused in (due.0, inr due.1)
 
 -- A CITATION
-cite_due : (steps : ℕ) (bytes : List ℕ) → length bytes ≤ log_limit → (due : Due) × IsDueForCitation steps bytes due
+cite_due : (steps : ℕ) (bytes : List ℕ) → length bytes ≤ log_limit → (due : Due) × due_for Cite steps bytes due
 cite_due steps bytes few = by (some_citation bytes steps few)
   where
     uncited : (error : CiteError) → TellsRefusal bytes steps error → (error ≡ citing.NoMemory → ⊥) → (due : Due) × TellsUncited error due
@@ -165,34 +165,17 @@ cite_due steps bytes few = by (some_citation bytes steps few)
     uncited citing.NoMemory h n = absurd (n refl)
 
     by : ((text : List ℕ) × IsCitation bytes steps text) ⊎ ((error : CiteError) × TellsRefusal bytes steps error × (error ≡ citing.NoMemory → ⊥))
-        → (due : Due) × IsDueForCitation steps bytes due
+        → (due : Due) × due_for Cite steps bytes due
     by (inl (text, cites)) = (record { text = cited_line text; status = Done }, inl (record { text = text; cites = cites; is = refl }))
     by (inr (error, refused, n)) =
         let told = uncited error refused n in
         (told.0, inr (record { error = error; refused = refused; is = told.1 }))
 
--- THE FIXED FRAME
-fixed_due : (steps : ℕ) (bytes : List ℕ) → length bytes ≤ program_limit → (due : Due) × IsDueForFixed steps bytes due
-fixed_due steps bytes few = by (texts_spell_or_are_refused bytes)
-  where
-    told : (p : Source) → ((verdict : Verdict) × EndsWithVerdict p steps verdict) ⊎ ((stop : Stop) × (number : ℕ) × StopsAtLine p steps stop number)
-        → (due : Due) × TellsFixed p steps due
-    told p (inl (verdict, ends)) = (record { text = fixed_line verdict; status = verdict_status verdict }, inl (verdict, ends, refl))
-    told p (inr (stop, number, stops)) = (stop_due number stop, inr (stop, number, stops, refl))
-
-    by : ((p : Source) × SpellsSource bytes p) ⊎ ((fault : Fault) × IsRefused bytes fault) → (due : Due) × IsDueForFixed steps bytes due
-    by (inl (p, spelt)) =
-        let q = spelt_program bytes p (omega (arith, few)) spelt in
-        let small = spelt_short bytes (source_of q.0) q.1 in
-        let due = told (source_of q.0) (some_fixed_log (source_of q.0) steps (record { well_formed = q.1.well_formed; short = omega (arith, small, few) })) in
-        (due.0, inl (record { program = q.0; spelt = q.1; tells = due.1 }))
-    by (inr refused) = let due = fault_told bytes refused in (due.0, inr due.1)
-
 -- A SEARCH
-search_due : (steps : ℕ) (bytes : List ℕ) → length bytes ≤ program_limit → (due : Due) × IsDueForSearch steps bytes due
+search_due : (steps : ℕ) (bytes : List ℕ) → length bytes ≤ program_limit → (due : Due) × due_for Discover steps bytes due
 search_due steps bytes few = by (texts_spell_or_are_refused bytes)
   where
-    by : ((p : Source) × SpellsSource bytes p) ⊎ ((fault : Fault) × IsRefused bytes fault) → (due : Due) × IsDueForSearch steps bytes due
+    by : ((p : Source) × SpellsSource bytes p) ⊎ ((fault : Fault) × IsRefused bytes fault) → (due : Due) × due_for Discover steps bytes due
     by (inl (p, spelt)) =
         let q = spelt_program bytes p (omega (arith, few)) spelt in
         let small = spelt_short bytes (source_of q.0) q.1 in
@@ -226,6 +209,40 @@ bench_due number steps some few =
       },
     )
 
+-- THE FIXED FRAME
+fixed_due : (steps : ℕ) (bytes : List ℕ) → length bytes ≤ program_limit → (due : Due) × due_for Fixed steps bytes due
+fixed_due steps bytes few = by (texts_spell_or_are_refused bytes)
+  where
+    told : (p : Source) → ((verdict : Verdict) × EndsWithVerdict p steps verdict) ⊎ ((stop : Stop) × (number : ℕ) × StopsAtLine p steps stop number)
+        → (due : Due) × TellsFixed p steps due
+    told p (inl (verdict, ends)) = (record { text = fixed_line verdict; status = verdict_status verdict }, inl (verdict, ends, refl))
+    told p (inr (stop, number, stops)) = (stop_due number stop, inr (stop, number, stops, refl))
+
+    by : ((p : Source) × SpellsSource bytes p) ⊎ ((fault : Fault) × IsRefused bytes fault) → (due : Due) × due_for Fixed steps bytes due
+    by (inl (p, spelt)) =
+        let q = spelt_program bytes p (omega (arith, few)) spelt in
+        let small = spelt_short bytes (source_of q.0) q.1 in
+        let due = told (source_of q.0) (some_fixed_log (source_of q.0) steps (record { well_formed = q.1.well_formed; short = omega (arith, small, few) })) in
+        (due.0, inl (record { program = q.0; spelt = q.1; tells = due.1 }))
+    by (inr refused) = let due = fault_told bytes refused in (due.0, inr due.1)
+
+-- WHAT A COMMAND READS
+abbrev ReadsInput : Command → Type 0
+ReadsInput (Bench number) = ⊥
+ReadsInput _ = Unit {0}
+
+some_due : (command : Command) (steps : ℕ) (bytes : List ℕ) → ReadsInput command → length bytes ≤ limit_of command
+    → (due : Due) × due_for command steps bytes due
+some_due Prove steps bytes reads = program_due steps bytes
+some_due Fixed steps bytes reads = fixed_due steps bytes
+some_due Discover steps bytes reads = search_due steps bytes
+some_due Place steps bytes reads = values_due false bytes
+some_due Figure steps bytes reads = values_due true bytes
+some_due Check steps bytes reads = log_due steps bytes
+some_due Text steps bytes reads = text_due steps bytes
+some_due Cite steps bytes reads = cite_due steps bytes
+some_due (Bench number) steps bytes reads = absurd reads
+
 -- THE WORDS
 module _ (words : List (List ℕ)) (left : Option (List ℕ)) where
   abbrev Called : Type 0
@@ -240,18 +257,12 @@ module _ (words : List (List ℕ)) (left : Option (List ℕ)) where
       (due.0, (order, given, own due.0 (subst (λ (o : Option (List ℕ)). IsReadCall limit For o due.0) (sym told) due.1)))
 
   called_for : (command : Command) (steps : ℕ) → IsOrder words (record { command = command; steps = steps }) → HasInput command left → Called
-  called_for Prove steps given input = called_by _ given program_limit (IsDueFor steps) input.0 input.1 (λ due h. h) (program_due steps input.0)
-  called_for Check steps given input = called_by _ given log_limit (IsDueForLog steps) input.0 input.1 (λ due h. h) (log_due steps input.0)
-  called_for Text steps given input = called_by _ given log_limit (IsDueForText steps) input.0 input.1 (λ due h. h) (text_due steps input.0)
-  called_for Place steps given input = called_by _ given program_limit (IsDueForValues false) input.0 input.1 (λ due h. h) (values_due false input.0)
-  called_for Figure steps given input = called_by _ given program_limit (IsDueForValues true) input.0 input.1 (λ due h. h) (values_due true input.0)
-  called_for Discover steps given input = called_by _ given program_limit (IsDueForSearch steps) input.0 input.1 (λ due h. h) (search_due steps input.0)
-  called_for Cite steps given input = called_by _ given log_limit (IsDueForCitation steps) input.0 input.1 (λ due h. h) (cite_due steps input.0)
-  called_for Fixed steps given input = called_by _ given program_limit (IsDueForFixed steps) input.0 input.1 (λ due h. h) (fixed_due steps input.0)
   called_for (Bench number) steps given input =
       let row = given.row in
       let due = bench_due number steps row.3 row.4 in
       (due.0, (record { command = Bench number; steps = steps }, given, due.1))
+  called_for command steps given input =
+      called_by _ given (limit_of command) (due_for command steps) input.0 input.1 (λ due h. h) (some_due command steps input.0 tt)
 
   pub some_is_called : (order : Order) → IsOrder words order → HasInput order.command left → Called
   some_is_called order given input = called_for order.command order.steps given input

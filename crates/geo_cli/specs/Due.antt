@@ -6,7 +6,7 @@ use Rattle.geo_cli.specs.declared.order.Command.{Command}
 use Rattle.geo_cli.specs.declared.order.Command.TheVariants.{Bench, Check, Cite, Discover, Figure, Fixed, Place, Prove, Text}
 use Rattle.geo_cli.specs.declared.order.Order.{Order}
 use Rattle.geo_answers.specs.declared.status.Status.TheVariants.{Done, NotInstance, Rejected, Usage, Syntax, TooLong, Unmet}
-use Rattle.geo_cli.specs.Input.{IsInput, IsLong, limit_of, log_limit, program_limit}
+use Rattle.geo_cli.specs.Input.{IsInput, IsLong, limit_of}
 use Rattle.geo_cli.specs.Orders.{IsOrder}
 use Rattle.geo_answers.specs.Due.{Due, IsAcceptedDue, IsLogDue, IsReadableDue, SpellsNone}
 use Rattle.geo_answers.specs.Status.{ending_status, refusal_status, stop_status, verdict_status}
@@ -76,10 +76,6 @@ pub record IsRefusalDue (bytes : List ℕ) (due : Due) : Type 0 where
   pub no_program : SpellsNone bytes fault
   pub is : due ≡ record { text = syntax_line fault; status = Syntax fault.refusal fault.place }
 
--- what `prove` is to write of these bytes
-abbrev pub IsDueFor : ℕ → List ℕ → Due → Type 0
-IsDueFor steps bytes due = IsLogDue steps bytes due ⊎ IsRefusalDue bytes due
-
 -- WHAT A LOG CALLS FOR
 
 -- `rejected 25 27`
@@ -97,14 +93,6 @@ pub record IsRejectionDue (steps : ℕ) (bytes : List ℕ) (due : Due) : Type 0 
   pub refusal : Refusal
   pub refused : Refuses bytes steps number refusal
   pub is : due ≡ record { text = refusal_line number refusal; status = refusal_status number refusal }
-
--- what `check` is to write of these bytes
-abbrev pub IsDueForLog : ℕ → List ℕ → Due → Type 0
-IsDueForLog steps bytes due = IsAcceptedDue steps bytes due ⊎ IsRejectionDue steps bytes due
-
--- what `text` is to write of these bytes
-abbrev pub IsDueForText : ℕ → List ℕ → Due → Type 0
-IsDueForText steps bytes due = IsReadableDue steps bytes due ⊎ IsRejectionDue steps bytes due
 
 -- WHAT VALUES AND A PROGRAM CALL FOR
 -- `unmet 1`
@@ -195,31 +183,6 @@ pub record IsUncitedDue (steps : ℕ) (bytes : List ℕ) (due : Due) : Type 0 wh
   pub refused : TellsRefusal bytes steps error
   pub is : TellsUncited error due
 
--- what `cite` is to write of these bytes
-abbrev pub IsDueForCitation : ℕ → List ℕ → Due → Type 0
-IsDueForCitation steps bytes due = IsCitedDue steps bytes due ⊎ IsUncitedDue steps bytes due
-
--- WHAT A PROGRAM CALLS FOR IN THE FIXED FRAME
--- `fixed proved`
-abbrev pub fixed_line : Verdict → List ℕ
-fixed_line verdict = codes "fixed " ++ verdict_text verdict ++ 10 ∷ []
-
--- the program's log in the fixed frame ends with this verdict, or at this stop
-abbrev pub TellsFixed : Source → ℕ → Due → Type 0
-TellsFixed p steps due =
-    ((verdict : Verdict) × EndsWithVerdict p steps verdict × (due ≡ record { text = fixed_line verdict; status = verdict_status verdict }))
-    ⊎ ((stop : Stop) × (number : ℕ) × StopsAtLine p steps stop number × (due ≡ stop_due number stop))
-
--- the bytes spell a program: how its log in the fixed frame, with so many steps, ends
-pub record IsFixedDue (steps : ℕ) (bytes : List ℕ) (due : Due) : Type 0 where
-  pub program : Program
-  pub spelt : Spells bytes program
-  pub tells : TellsFixed (source_of program) steps due
-
--- what `fixed` is to write of these bytes
-abbrev pub IsDueForFixed : ℕ → List ℕ → Due → Type 0
-IsDueForFixed steps bytes due = IsFixedDue steps bytes due ⊎ IsRefusalDue bytes due
-
 -- WHAT A PROGRAM CALLS FOR WHOSE RELATIONS ARE SOUGHT
 -- the bytes spell a program: the text of its search, with so many steps for each candidate
 pub record IsSearchDue (steps : ℕ) (bytes : List ℕ) (due : Due) : Type 0 where
@@ -229,10 +192,6 @@ pub record IsSearchDue (steps : ℕ) (bytes : List ℕ) (due : Due) : Type 0 whe
   pub end : SearchEnd
   pub searched : IsSearched (source_of program) steps lines end
   pub is : due ≡ record { text = with_feeds lines; status = search_status end }
-
--- what `discover` is to write of these bytes
-abbrev pub IsDueForSearch : ℕ → List ℕ → Due → Type 0
-IsDueForSearch steps bytes due = IsSearchDue steps bytes due ⊎ IsRefusalDue bytes due
 
 -- WHAT A NUMBER CALLS FOR
 
@@ -266,6 +225,36 @@ pub record IsBenchDue (number steps : ℕ) (due : Due) : Type 0 where
     status = ending_status lines ending;
   }
 
+-- WHAT A PROGRAM CALLS FOR IN THE FIXED FRAME
+-- `fixed proved`
+abbrev pub fixed_line : Verdict → List ℕ
+fixed_line verdict = codes "fixed " ++ verdict_text verdict ++ 10 ∷ []
+
+-- the program's log in the fixed frame ends with this verdict, or at this stop
+abbrev pub TellsFixed : Source → ℕ → Due → Type 0
+TellsFixed p steps due =
+    ((verdict : Verdict) × EndsWithVerdict p steps verdict × (due ≡ record { text = fixed_line verdict; status = verdict_status verdict }))
+    ⊎ ((stop : Stop) × (number : ℕ) × StopsAtLine p steps stop number × (due ≡ stop_due number stop))
+
+-- the bytes spell a program: how its log in the fixed frame, with so many steps, ends
+pub record IsFixedDue (steps : ℕ) (bytes : List ℕ) (due : Due) : Type 0 where
+  pub program : Program
+  pub spelt : Spells bytes program
+  pub tells : TellsFixed (source_of program) steps due
+
+-- WHAT EACH COMMAND CALLS FOR
+-- with so many steps and the bytes that it reads, which are what it asks for, or refused; `bench` reads none
+abbrev pub due_for : Command → ℕ → List ℕ → Due → Type 0
+due_for Prove steps bytes due = IsLogDue steps bytes due ⊎ IsRefusalDue bytes due
+due_for Fixed steps bytes due = IsFixedDue steps bytes due ⊎ IsRefusalDue bytes due
+due_for Discover steps bytes due = IsSearchDue steps bytes due ⊎ IsRefusalDue bytes due
+due_for Place steps bytes due = IsDueForValues false bytes due
+due_for Figure steps bytes due = IsDueForValues true bytes due
+due_for Check steps bytes due = IsAcceptedDue steps bytes due ⊎ IsRejectionDue steps bytes due
+due_for Text steps bytes due = IsReadableDue steps bytes due ⊎ IsRejectionDue steps bytes due
+due_for Cite steps bytes due = IsCitedDue steps bytes due ⊎ IsUncitedDue steps bytes due
+due_for (Bench number) steps bytes due = IsBenchDue number steps due
+
 -- WHAT THE WORDS CALL FOR
 
 -- they are no command: nothing is read
@@ -279,18 +268,6 @@ abbrev pub IsReadDue : ℕ → (List ℕ → Due → Type 0) → Option (List �
 IsReadDue limit For left left' due =
     (IsLong limit left left' × (due ≡ record { text = too_long_line; status = TooLong }))
     ⊎ ((bytes : List ℕ) × IsInput limit left bytes left' × For bytes due)
-
--- what is to be written of the bytes that a command with so many steps reads; `bench` reads none
-abbrev pub due_for : Command → ℕ → List ℕ → Due → Type 0
-due_for Prove steps = IsDueFor steps
-due_for Check steps = IsDueForLog steps
-due_for Text steps = IsDueForText steps
-due_for Place steps = IsDueForValues false
-due_for Figure steps = IsDueForValues true
-due_for Cite steps = IsDueForCitation steps
-due_for Fixed steps = IsDueForFixed steps
-due_for Discover steps = IsDueForSearch steps
-due_for (Bench number) steps = λ bytes due. IsBenchDue number steps due
 
 -- what each command with so many steps is to write; `bench` reads nothing
 abbrev pub IsCommandDue : Command → ℕ → Option (List ℕ) → Option (List ℕ) → Due → Type 0

@@ -2,7 +2,7 @@
 use Rattle.std.specs.Prelude.{◌≡◌, ℕ, ◌+◌, ◌≤◌, List, length, Option}
 use Rattle.geo_base.specs.Devices.{HasEnded, Loses}
 use Rattle.geo_cli.specs.declared.order.Command.{Command}
-use Rattle.geo_cli.specs.declared.order.Command.TheVariants.{Bench, Check, Cite, Discover, Figure, Fixed, Place, Prove, Text}
+use Rattle.geo_cli.specs.declared.order.Command.TheVariants.{Bench, Check, Cite, Text}
 
 -- the most bytes of a program
 abbrev pub program_limit : ℕ
@@ -12,17 +12,13 @@ program_limit = 1048576
 abbrev pub log_limit : ℕ
 log_limit = 67108864
 
--- the most bytes of what a command reads; `bench` reads nothing
+-- the most bytes of what a command reads: those of a log, or else of a program; `bench` reads nothing
 abbrev pub limit_of : Command → ℕ
-limit_of Prove = program_limit
 limit_of Check = log_limit
 limit_of Text = log_limit
-limit_of Place = program_limit
-limit_of Figure = program_limit
 limit_of Cite = log_limit
-limit_of Fixed = program_limit
-limit_of Discover = program_limit
 limit_of (Bench number) = 0
+limit_of _ = program_limit
 
 -- all bytes of the source were read, and they are within the limit
 pub record IsInput (limit : ℕ) (left : Option (List ℕ)) (bytes : List ℕ) (left' : Option (List ℕ)) : Type 0 where

@@ -130,7 +130,7 @@ pub record BenchesLog (words : List (List ℕ)) (held held' : Option (List ℕ))
   pub accepted : Accepts benches.text benches.steps (source_of benches.program) verdict
   pub written : Grows held (bench_text benches.number (length form.construction.steps) benches.steps lines (ends_with verdict left)) held'
 
--- the log of the program in the fixed frame with these steps, which is not written, ends with this verdict
+-- the log of the program with its first point at the origin, with these steps, which is not written, ends with this verdict
 pub record FixesByLog (words : List (List ℕ)) (left left' held held' : Option (List ℕ)) (verdict : Verdict) : Type 0 where
   pub fixes : Fixes words left left' held held' verdict
   pub ends : EndsWithVerdict (source_of fixes.program) fixes.steps verdict

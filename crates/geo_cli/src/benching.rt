@@ -2,28 +2,19 @@
 ghost use Rattle.std.specs.Prelude.{◌≡◌, ◌≢◌, ◌≤◌, IfOk};
 ghost use Rattle.geo_cli.specs.Due.{IsBenchDue};
 ghost use Rattle.geo_cli.specs.Inner.Answering.{AnswersDue};
-ghost use Rattle.geo_cli.specs.Inner.Telling.{TellsEnding, stop_report, summary_report};
+ghost use Rattle.geo_cli.specs.Inner.Telling.{TellsEnding, summary_report};
 ghost use Rattle.geo_program.specs.Programs.{source_of};
-ghost use Rattle.proof_log.specs.Writable.{IsWritable};
 
 use crate::answers::{answer, push_count};
+use crate::reports::{Report, report_stop};
 use geo_answers::{Status, push_verdict};
 use geo_base::{Sink, SureSink, Text};
 use geo_lowering::lower;
 use geo_points::NoMemory;
 use geo_program::Program;
 use geo_prover::{ProveError, Summary, bench_program, prove};
-use proof_log::{Line, write_line};
+use proof_log::Line;
 use std::alloc::Global;
-
-/// A text that is to be written, and the status then.
-#[derive(Drop)]
-pub struct Report {
-    /// The text.
-    pub text: Text,
-    /// The status.
-    pub status: Status,
-}
 
 /// Proves the generated program of this number with so many steps, and writes its number, its
 /// points and how its log ends. It reads nothing, and the log is not written.
@@ -72,10 +63,10 @@ fn tell_ending(alloc: Global, program: &Program, steps: u64) -> Result<Report, N
         Ok(summary) => tell_summary(alloc, summary),
         Err(ProveError::TooLarge { line, which }) => {
             let stop = Line::StopTooLarge { line, which };
-            tell_stop(alloc, &stop, Status::TooLarge { line, which })
+            report_stop(alloc, &stop, Status::TooLarge { line, which })
         }
         Err(ProveError::Spent { line }) => {
-            tell_stop(alloc, &Line::StopSpent { line }, Status::Spent { line })
+            report_stop(alloc, &Line::StopSpent { line }, Status::Spent { line })
         }
         Err(ProveError::TooLong) => Ok(Report {
             text: Text {
@@ -100,13 +91,4 @@ fn tell_summary(alloc: Global, summary: Summary) -> Result<Report, NoMemory>
         text: Text { bytes },
         status: Status::of_verdict(summary.verdict),
     })
-}
-
-/// How a log ends by a stop, which has this line and this status.
-pub fn tell_stop(alloc: Global, stop: &Line, status: Status) -> Result<Report, NoMemory>
-    requires { IsWritable stop.now }
-    ensures { IfOk result (λ report. report ≡ stop_report stop.now status) }
-{
-    let text = write_line(alloc, stop)?;
-    Ok(Report { text, status })
 }

@@ -1,9 +1,10 @@
 //! The command `check`: a log is read, and told to be accepted or refused.
 ghost use Rattle.std.specs.Prelude.{◌≡◌, ◌≢◌, ◌≤◌, ℕ, List};
-ghost use Rattle.geo_cli.specs.Due.{IsDueForLog};
-ghost use Rattle.geo_cli.specs.Inner.Answering.{AnswersInput, AnswersLog};
+ghost use Rattle.geo_cli.specs.Due.{due_for};
+ghost use Rattle.geo_cli.specs.Inner.Answering.{AnswersDue, AnswersInput};
 ghost use Rattle.geo_cli.specs.Inner.Judgements.{IsJudgement};
 ghost use Rattle.geo_cli.specs.Input.{Takes, log_limit};
+ghost use Rattle.geo_cli.specs.declared.order.Command.TheVariants.{Check};
 ghost use Rattle.geo_program.specs.Programs.{source_of};
 ghost use Rattle.log_checker.specs.Accepted.{Accepts};
 
@@ -25,7 +26,7 @@ pub fn run_check<S: Source, K: Sink>(
     source: &mut S,
     sink: &mut K,
 ) -> Status
-    ensures answers { AnswersInput log_limit (IsDueForLog steps)
+    ensures answers { AnswersInput log_limit (due_for Check steps)
         (S.left source.old) (S.left source.new) (S.faults source.old) (S.faults source.new)
         (K.faults sink.old) (K.faults sink.new) (K.held sink.old) (K.held sink.new) result }
     ensures unwritten { result ≡ Status.ReadFault → sink.new ≡ sink.old }
@@ -48,7 +49,7 @@ pub fn run_check<S: Source, K: Sink>(
 /// Tells what became of a log.
 fn report<K: Sink>(alloc: Global, judged: Result<Accepted, CheckError>, sink: &mut K) -> Status
     ensures answers { (steps : ℕ) (bytes : List ℕ) → IsJudgement bytes steps judged
-        → AnswersLog steps bytes (K.faults sink.old) (K.faults sink.new)
+        → AnswersDue (due_for Check steps bytes) (K.faults sink.old) (K.faults sink.new)
         (K.held sink.old) (K.held sink.new) result }
     ensures reads { result ≢ Status.ReadFault }
     ensures faults { K.faults sink.old ≤ K.faults sink.new }
@@ -65,7 +66,7 @@ fn report<K: Sink>(alloc: Global, judged: Result<Accepted, CheckError>, sink: &m
 fn accept<K: Sink>(alloc: Global, program: &Program, verdict: Verdict, sink: &mut K) -> Status
     ensures answers { (steps : ℕ) (bytes : List ℕ)
         → Accepts bytes steps (source_of program.now) verdict
-        → AnswersLog steps bytes (K.faults sink.old) (K.faults sink.new)
+        → AnswersDue (due_for Check steps bytes) (K.faults sink.old) (K.faults sink.new)
         (K.held sink.old) (K.held sink.new) result }
     ensures reads { result ≢ Status.ReadFault }
     ensures faults { K.faults sink.old ≤ K.faults sink.new }

@@ -24,7 +24,9 @@ mod order;
 mod placing;
 mod printing;
 mod proving;
+mod reading;
 mod refusing;
+mod reports;
 mod run;
 #[cfg(test)]
 mod tests;

@@ -29,12 +29,30 @@ pub enum Command {
     Figure,
     /// Cite the theorem of a log at a program.
     Cite,
-    /// Decide a program with its first point at the origin.
-    Fixed,
     /// Write the relations of a figure.
     Discover,
+    /// Decide a program with its first point at the origin.
+    Fixed,
     /// Prove the generated program of this number, from 1 to 60.
     Bench(u32),
+}
+
+/// The command whose row is the name alone.
+fn plain_command(name: &str) -> Option<Command>
+    ensures row { IfSome result (IsRow (name.now ∷ [])) }
+    ensures complete { (c : Command) → IsRow (name.now ∷ []) c → result ≡ Some c }
+{
+    match name {
+        "prove" => Some(Command::Prove),
+        "fixed" => Some(Command::Fixed),
+        "discover" => Some(Command::Discover),
+        "place" => Some(Command::Place),
+        "figure" => Some(Command::Figure),
+        "check" => Some(Command::Check),
+        "text" => Some(Command::Text),
+        "cite" => Some(Command::Cite),
+        _ => None,
+    }
 }
 
 /// A command, and the steps that it may take.
@@ -156,24 +174,5 @@ fn named_command(name: &String, words: &[String]) -> Option<Command>
             }
             Some(Command::Bench(number_of(number.as_bytes(), MOST_BENCH)? as u32))
         }
-    }
-}
-
-/// The command whose row is the name alone.
-fn plain_command(name: &str) -> Option<Command>
-    ensures row { IfSome result (IsRow (name.now ∷ [])) }
-    ensures complete { (command : Command) → IsRow (name.now ∷ []) command
-        → result ≡ Some command }
-{
-    match name {
-        "prove" => Some(Command::Prove),
-        "check" => Some(Command::Check),
-        "text" => Some(Command::Text),
-        "place" => Some(Command::Place),
-        "figure" => Some(Command::Figure),
-        "cite" => Some(Command::Cite),
-        "fixed" => Some(Command::Fixed),
-        "discover" => Some(Command::Discover),
-        _ => None,
     }
 }

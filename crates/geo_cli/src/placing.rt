@@ -1,23 +1,19 @@
-//! The commands `place` and `figure`: values and a program are read, and the program's points at
-//! these values are written.
+//! The commands `place` and `figure`: the points of a program at values are written.
 ghost use Rattle.std.specs.Prelude.{◌≡◌, ◌≢◌, ◌+◌, ◌≤◌, ◌<◌, ◌^◌, All, IfOk, length, true};
 ghost use Rattle.std.specs.Prelude.{unsigned_abs};
 ghost use Rattle.geo_cli.specs.Due.{IsDueForValues, IsRestDue, IsValuesDue, TellsPoints};
-ghost use Rattle.geo_cli.specs.Due.{fault_due, large_due, unmet_line};
-ghost use Rattle.geo_cli.specs.Inner.Answering.{AnswersDue, AnswersInput};
+ghost use Rattle.geo_cli.specs.Due.{large_due, unmet_line};
+ghost use Rattle.geo_cli.specs.Inner.Answering.{AnswersDue};
 ghost use Rattle.geo_cli.specs.Inner.Telling.{due_of};
-ghost use Rattle.geo_cli.specs.Input.{Takes, program_limit};
 ghost use Rattle.geo_cli.specs.Values.{values_line};
 ghost use Rattle.geo_place.specs.Placing.{IsDrawable};
 
-use crate::answers::{TOO_LONG, answer, syntax_line};
-use crate::benching::Report;
-use crate::proving::PROGRAM_LIMIT;
+use crate::answers::answer;
+use crate::reports::{Report, report_fault};
 use crate::values::split_values;
 use geo_answers::{Status, push_numbered};
-use geo_base::{ReadError, Sink, Source, Text, read_all};
+use geo_base::{Sink, Text};
 use geo_figure::{DrawError, draw};
-use geo_lexer::Fault;
 use geo_parser::{ParseError, parse};
 use geo_place::{Ints, PlaceError, Placed, place, placed_text, wanted};
 use geo_points::NoMemory;
@@ -26,36 +22,9 @@ use geo_program::Program;
 use proof_log::{Line, write_line};
 use std::alloc::Global;
 
-/// Reads values and a program to their end, and writes the program's points at these values, as
-/// text or drawn, or tells why there are none.
-pub fn run_place<S: Source, K: Sink>(
-    alloc: Global,
-    drawn: bool,
-    source: &mut S,
-    sink: &mut K,
-) -> Status
-    ensures answers { AnswersInput program_limit (IsDueForValues drawn)
-        (S.left source.old) (S.left source.new) (S.faults source.old) (S.faults source.new)
-        (K.faults sink.old) (K.faults sink.new) (K.held sink.old) (K.held sink.new) result }
-    ensures unwritten { result ≡ Status.ReadFault → sink.new ≡ sink.old }
-    ensures taken { Takes program_limit (S.left source.old) (S.left source.new) }
-    ensures source_faults { S.faults source.old ≤ S.faults source.new }
-    ensures sink_faults { K.faults sink.old ≤ K.faults sink.new }
-    ensures source_heard { result ≢ Status.ReadFault
-        → S.faults source.new ≡ S.faults source.old }
-    ensures sink_heard { result ≢ Status.WriteFault
-        → K.faults sink.new ≡ K.faults sink.old }
-{
-    match read_all(alloc, source, PROGRAM_LIMIT) {
-        Ok(bytes) => place_bytes(alloc, &bytes, drawn, sink),
-        Err(ReadError::TooLong) => answer(sink, TOO_LONG, Status::TooLong),
-        Err(ReadError::ReadFault) => Status::ReadFault,
-        Err(ReadError::NoMemory) => Status::NoMemory,
-    }
-}
-
-/// Writes what the bytes call for.
-fn place_bytes<K: Sink>(alloc: Global, bytes: &[u8], drawn: bool, sink: &mut K) -> Status
+/// Writes the points of a program at the values before it, as text or drawn, or tells why there are
+/// none.
+pub fn place_bytes<K: Sink>(alloc: Global, bytes: &[u8], drawn: bool, sink: &mut K) -> Status
     requires { length bytes.now ≤ 1048576 }
     ensures answers { AnswersDue (IsDueForValues drawn bytes.now) (K.faults sink.old)
         (K.faults sink.new) (K.held sink.old) (K.held sink.new) result }
@@ -120,7 +89,7 @@ fn report_program(
     match place(alloc, program, values) {
         Ok(placed) => report_points(alloc, &placed, drawn),
         Err(PlaceError::Unmet(number)) => report_unmet(alloc, number),
-        Err(PlaceError::TooLarge { line }) => report_stop(alloc, line),
+        Err(PlaceError::TooLarge { line }) => report_large(alloc, line),
         Err(PlaceError::NoMemory) => Err(NoMemory),
     }
 }
@@ -149,19 +118,9 @@ fn report_drawing(alloc: Global, placed: &Placed) -> Result<Report, NoMemory>
             text,
             status: Status::Done,
         }),
-        Err(DrawError::TooLarge { line }) => report_stop(alloc, line),
+        Err(DrawError::TooLarge { line }) => report_large(alloc, line),
         Err(DrawError::NoMemory) => Err(NoMemory),
     }
-}
-
-/// What is to be written for a refusal at this place.
-pub fn report_fault(alloc: Global, refusal: u32, place: u64) -> Result<Report, NoMemory>
-    ensures { IfOk result (λ r. due_of r ≡ fault_due refusal place) }
-{
-    Ok(Report {
-        text: syntax_line(alloc, Fault { refusal, place })?,
-        status: Status::Syntax { refusal, place },
-    })
 }
 
 /// What is to be written for the condition of this number, which is not met.
@@ -179,7 +138,7 @@ fn report_unmet(alloc: Global, number: u32) -> Result<Report, NoMemory>
 }
 
 /// What is to be written for a number that is too large, at this line.
-fn report_stop(alloc: Global, line: u64) -> Result<Report, NoMemory>
+fn report_large(alloc: Global, line: u64) -> Result<Report, NoMemory>
     ensures { IfOk result (λ r. due_of r ≡ large_due line) }
 {
     let which = Which::Norm;

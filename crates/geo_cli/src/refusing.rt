@@ -1,6 +1,7 @@
 //! Logs that are refused.
 ghost use Rattle.std.specs.Prelude.{◌≡◌, ◌≢◌, ◌≤◌, ℕ, List, IfOk};
-ghost use Rattle.geo_cli.specs.Inner.Answering.{AnswersRefusal};
+ghost use Rattle.geo_cli.specs.Due.{IsRejectionDue};
+ghost use Rattle.geo_cli.specs.Inner.Answering.{AnswersDue};
 ghost use Rattle.geo_cli.specs.Inner.Judgements.{IsRefusal, error_line};
 ghost use Rattle.log_checker.specs.Checked.{TellsStop};
 ghost use Rattle.log_checker.specs.Judged.{Refuses};
@@ -16,7 +17,7 @@ use std::alloc::Global;
 /// Tells why a log is refused.
 pub fn refuse<K: Sink>(alloc: Global, error: CheckError, sink: &mut K) -> Status
     ensures answers { (steps : ℕ) (bytes : List ℕ) → TellsStop (Refuses bytes steps) error
-        → AnswersRefusal steps bytes (K.faults sink.old) (K.faults sink.new)
+        → AnswersDue (IsRejectionDue steps bytes) (K.faults sink.old) (K.faults sink.new)
         (K.held sink.old) (K.held sink.new) result }
     ensures reads { result ≢ Status.ReadFault }
     ensures faults { K.faults sink.old ≤ K.faults sink.new }

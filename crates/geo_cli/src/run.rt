@@ -19,13 +19,8 @@ ghost use Rattle.proof_log.specs.declared.log.Verdict.{Verdict};
 use crate::answers::{USAGE, answer};
 use crate::benching::run_bench;
 use crate::checking::run_check;
-use crate::citing::run_cite;
-use crate::discovering::run_discover;
-use crate::fixing::run_fixed;
 use crate::order::{Command, Order, order_of};
-use crate::placing::run_place;
-use crate::printing::run_text;
-use crate::proving::run_prove;
+use crate::reading::run_reading;
 use geo_answers::Status;
 use geo_base::{Sink, Source};
 use std::alloc::Global;
@@ -126,14 +121,8 @@ fn carry_out<S: Source, K: Sink>(
         → K.faults sink.new ≡ K.faults sink.old }
 {
     match order.command {
-        Command::Prove => run_prove(alloc, order.steps, source, sink),
         Command::Check => run_check(alloc, order.steps, source, sink),
-        Command::Text => run_text(alloc, order.steps, source, sink),
-        Command::Place => run_place(alloc, false, source, sink),
-        Command::Figure => run_place(alloc, true, source, sink),
-        Command::Cite => run_cite(alloc, order.steps, source, sink),
-        Command::Fixed => run_fixed(alloc, order.steps, source, sink),
-        Command::Discover => run_discover(alloc, order.steps, source, sink),
         Command::Bench(number) => run_bench(alloc, number, order.steps, sink),
+        _ => run_reading(alloc, order.command, order.steps, source, sink),
     }
 }

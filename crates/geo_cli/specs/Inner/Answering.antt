@@ -2,33 +2,17 @@
 use Rattle.std.specs.Prelude.{◌≡◌, ◌⊎◌, ◌≤◌, ℕ, List, Option}
 use Rattle.geo_base.specs.Devices.{HasRisen}
 use Rattle.geo_cli.specs.declared.order.Command.{Command}
-use Rattle.geo_cli.specs.declared.order.Command.TheVariants.{Bench}
+use Rattle.geo_cli.specs.declared.order.Command.TheVariants.{Bench, Check, Cite, Figure, Place, Text}
 use Rattle.geo_answers.specs.declared.status.Status.{Status}
 use Rattle.geo_answers.specs.declared.status.Status.TheVariants.{ReadFault}
 use Rattle.geo_answers.specs.Due.{Due}
-use Rattle.geo_cli.specs.Due.{IsCommandDue, IsDueFor, IsDueForLog, IsDueForText, IsReadDue, IsRejectionDue}
+use Rattle.geo_cli.specs.Due.{IsCommandDue, IsReadDue}
 use Rattle.geo_cli.specs.Run.{IsAnswered, RunsOut}
 
 -- something that is due was answered, or memory ran out before
 abbrev pub AnswersDue : (Due → Type 0) → ℕ → ℕ → Option (List ℕ) → Option (List ℕ) → Status → Type 0
 AnswersDue Of faults faults' held held' status =
     ((due : Due) × Of due × IsAnswered due status faults faults' held held') ⊎ RunsOut held held' status
-
--- what `prove` is to write of these bytes
-abbrev pub AnswersBytes : ℕ → List ℕ → ℕ → ℕ → Option (List ℕ) → Option (List ℕ) → Status → Type 0
-AnswersBytes steps bytes = AnswersDue (IsDueFor steps bytes)
-
--- what `check` is to write of them
-abbrev pub AnswersLog : ℕ → List ℕ → ℕ → ℕ → Option (List ℕ) → Option (List ℕ) → Status → Type 0
-AnswersLog steps bytes = AnswersDue (IsDueForLog steps bytes)
-
--- what `text` is to write of them
-abbrev pub AnswersText : ℕ → List ℕ → ℕ → ℕ → Option (List ℕ) → Option (List ℕ) → Status → Type 0
-AnswersText steps bytes = AnswersDue (IsDueForText steps bytes)
-
--- what both are to write of a log that is refused
-abbrev pub AnswersRefusal : ℕ → List ℕ → ℕ → ℕ → Option (List ℕ) → Option (List ℕ) → Status → Type 0
-AnswersRefusal steps bytes = AnswersDue (IsRejectionDue steps bytes)
 
 -- what a command with this limit is to write of its input was answered; or a read failed and nothing was written; or memory ran out before
 abbrev pub AnswersInput :
@@ -43,6 +27,22 @@ abbrev pub AnswersCommand :
 AnswersCommand command steps left left' source_faults source_faults' faults faults' held held' status =
     AnswersDue (IsCommandDue command steps left left') faults faults' held held' status
     ⊎ (((number : ℕ) → command ≡ Bench number → ⊥) × (status ≡ ReadFault) × HasRisen source_faults source_faults' × (held' ≡ held))
+
+-- the command works on its input as a whole: `check` does so line by line, and `bench` reads none
+abbrev pub ReadsWhole : Command → Type 0
+ReadsWhole Check = ⊥
+ReadsWhole (Bench number) = ⊥
+ReadsWhole _ = Unit {0}
+
+-- the input is a program alone
+abbrev pub ReadsProgram : Command → Type 0
+ReadsProgram Place = ⊥
+ReadsProgram Figure = ⊥
+ReadsProgram Check = ⊥
+ReadsProgram Text = ⊥
+ReadsProgram Cite = ⊥
+ReadsProgram (Bench number) = ⊥
+ReadsProgram _ = Unit {0}
 
 -- a generated program has a number from 1 to 60
 abbrev pub HasNumber : Command → Type 0

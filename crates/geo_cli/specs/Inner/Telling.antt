@@ -1,6 +1,6 @@
 -- How the log of a generated program is told.
 use Rattle.std.specs.Prelude.{◌≡◌, ℕ, List, [], ◌∷◌, ◌++◌, codes}
-use Rattle.geo_cli.specs.declared.benching.Report.{Report}
+use Rattle.geo_cli.specs.declared.reports.Report.{Report}
 use Rattle.geo_answers.specs.declared.status.Status.{Status}
 use Rattle.geo_answers.specs.Due.{Due}
 use Rattle.geo_answers.specs.Status.{ending_status, verdict_status}

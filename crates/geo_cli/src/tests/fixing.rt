@@ -8,6 +8,16 @@ const KNOWN_PARAMETER: &[u8] =
     b"param r point A point B point C pratio X A B C div { 1 } { r } prove { equal { mult { r } { \
     signed_area3 A B X } } { mult { r } { signed_area3 A B C } } }";
 
+const LARGE: Status = Status::TooLarge {
+    line: 5,
+    which: Which::Norm,
+};
+
+const EMPTY: Status = Status::Syntax {
+    refusal: 11,
+    place: 8,
+};
+
 // A run of `fixed` over a program.
 const fn fixed(input: &'static [u8], status: Status, held: &'static [u8]) -> Row {
     Row {
@@ -30,19 +40,11 @@ fn verdicts_are_told(rt: HostRuntime) -> Result<(), Fail> {
 
 #[test]
 fn stops_and_refusals_are_told(rt: HostRuntime) -> Result<(), Fail> {
-    let too_large = Status::TooLarge {
-        line: 5,
-        which: Which::Norm,
-    };
-    let syntax = Status::Syntax {
-        refusal: 11,
-        place: 8,
-    };
     let rows = [
-        fixed(TOO_LARGE, too_large, b"stop too_large 5 norm\n"),
-        fixed(b"point A\n", syntax, b"syntax 11 at 8\n"),
+        fixed(TOO_LARGE, LARGE, b"stop too_large 5 norm\n"),
+        fixed(b"point A\n", EMPTY, b"syntax 11 at 8\n"),
         Row {
-            words: &["fixed", "--steps", "24"],
+            words: &["fixed", "--steps=24"],
             ..fixed(MIDPOINT, Status::Proved, b"fixed proved\n")
         },
         Row {

@@ -10,11 +10,11 @@ pub returns-in-Err-TooLarge : goal.returns-in-Err-TooLarge
 returns-in-Err-TooLarge c =
     is_told _ _ _ _
     (stop_told _ _ _ _ (too_large _) _ (c.prove.ensures.too_large _ _ (c.in-Err-TooLarge.is ∙ ap Err c.in-Err-TooLarge.field-0-is)))
-    c.tell_stop.ensures
+    c.report_stop.ensures
 
 pub returns-in-Err-Spent : goal.returns-in-Err-Spent
 returns-in-Err-Spent c =
-    is_told _ _ _ _ (stop_told _ _ _ _ spent _ (c.prove.ensures.spent _ (c.in-Err-Spent.is ∙ ap Err c.in-Err-Spent.field-0-is))) c.tell_stop-in-Err-Spent.ensures
+    is_told _ _ _ _ (stop_told _ _ _ _ spent _ (c.prove.ensures.spent _ (c.in-Err-Spent.is ∙ ap Err c.in-Err-Spent.field-0-is))) c.report_stop-in-Err-Spent.ensures
 
 pub returns-in-Err-TooLong : goal.returns-in-Err-TooLong
 returns-in-Err-TooLong c = long_told _ _ _ _ _ (c.prove.ensures.too_long (search rules)) (search rules) (search rules)

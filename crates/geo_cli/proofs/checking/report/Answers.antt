@@ -1,5 +1,6 @@
 use Rattle.std.proofs.Common.{inr}
-use Rattle.geo_cli.specs.Due.{IsDueForLog, IsRejectionDue}
+use Rattle.geo_cli.specs.declared.order.Command.TheVariants.{Check}
+use Rattle.geo_cli.specs.Due.{IsRejectionDue, due_for}
 use Rattle.geo_cli.proofs.Answered.{answers_more}
 use Rattle.geo_cli.proofs.Reported.{judged_err, judged_ok}
 use Rattle.geo_cli.proofs.checking.report.Goals as goal
@@ -9,5 +10,5 @@ returns-in-Ok-clause-answers g c = λ steps bytes h. c.accept.ensures.answers st
 
 pub returns-in-Err-clause-answers : goal.returns-in-Err-clause-answers
 returns-in-Err-clause-answers g c = λ steps bytes h.
-    answers_more (IsRejectionDue steps bytes) (IsDueForLog steps bytes) (λ due is. inr is) _ _ _ _ _
+    answers_more (IsRejectionDue steps bytes) (due_for Check steps bytes) (λ due is. inr is) _ _ _ _ _
     (c.refuse.ensures.answers steps bytes (judged_err bytes steps _ _ c.in-Err.is h))

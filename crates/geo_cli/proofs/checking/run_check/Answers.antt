@@ -1,5 +1,6 @@
 use Rattle.std.proofs.Common.{rules, arith}
-use Rattle.geo_cli.specs.Due.{IsDueForLog}
+use Rattle.geo_cli.specs.declared.order.Command.TheVariants.{Check}
+use Rattle.geo_cli.specs.Due.{due_for}
 use Rattle.geo_cli.specs.Input.{log_limit}
 use Rattle.geo_cli.proofs.Answered.{of_input, of_long}
 use Rattle.geo_cli.proofs.checking.run_check.Goals as goal
@@ -7,7 +8,7 @@ use Rattle.geo_cli.proofs.checking.run_check.Goals as goal
 pub returns-in-Ok-clause-answers : goal.returns-in-Ok-clause-answers
 returns-in-Ok-clause-answers g c =
     let read = c.in-Ok.ensures.judged in
-    of_input log_limit (IsDueForLog c.args.steps) _ _ _ _ _ _ _ _ _ read.bytes read.input (c.report.ensures.answers _ read.bytes read.judged)
+    of_input log_limit (due_for Check c.args.steps) _ _ _ _ _ _ _ _ _ read.bytes read.input (c.report.ensures.answers _ read.bytes read.judged)
 
 pub returns-in-Ok-clause-taken : goal.returns-in-Ok-clause-taken
 returns-in-Ok-clause-taken g c =
@@ -16,4 +17,4 @@ returns-in-Ok-clause-taken g c =
 
 pub returns-in-Err-TooLong-clause-answers : goal.returns-in-Err-TooLong-clause-answers
 returns-in-Err-TooLong-clause-answers g c =
-    of_long log_limit (IsDueForLog c.args.steps) _ _ _ _ _ _ _ _ _ (c.judge.ensures.too_long (search rules)) c.answer.ensures.answered
+    of_long log_limit (due_for Check c.args.steps) _ _ _ _ _ _ _ _ _ (c.judge.ensures.too_long (search rules)) c.answer.ensures.answered

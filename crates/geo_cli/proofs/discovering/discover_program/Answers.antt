@@ -1,5 +1,5 @@
 use Rattle.std.proofs.Common.{rules, refl, inl, inr, ◌∙◌, ap, Err}
-use Rattle.geo_cli.proofs.SearchDue.{long_search, search_part, searched}
+use Rattle.geo_cli.proofs.ProgramsDue.{long_search, search_part, searched}
 use Rattle.geo_cli.proofs.discovering.discover_program.Goals as goal
 use Rattle.geo_discover.specs.FoundTexts.{found, impossible, open_by}
 use Rattle.geo_logs.specs.Ends.{ends_by}

@@ -15,4 +15,4 @@ returns-in-Err-Unmet c =
 pub returns-in-Err-TooLarge : goal.returns-in-Err-TooLarge
 returns-in-Err-TooLarge c =
     answer_told c.args.drawn c.args.program.now c.args.values.now (search rules) _ _ (c.in-Err-TooLarge.is ∙ ap Err c.in-Err-TooLarge.field-0-is)
-    c.place.ensures.answer _ c.report_stop.ensures
+    c.place.ensures.answer _ c.report_large.ensures

@@ -1,5 +1,6 @@
 use Rattle.std.proofs.Common.{inr, rules}
-use Rattle.geo_cli.specs.Due.{IsDueForText, IsRejectionDue}
+use Rattle.geo_cli.specs.declared.order.Command.TheVariants.{Text}
+use Rattle.geo_cli.specs.Due.{IsRejectionDue, due_for}
 use Rattle.geo_cli.proofs.Answered.{answers_more}
 use Rattle.geo_cli.proofs.Reported.{proof_told}
 use Rattle.geo_cli.proofs.printing.print_bytes.Goals as goal
@@ -10,5 +11,5 @@ returns-in-Ok-clause-answers g c =
 
 pub returns-in-Err-clause-answers : goal.returns-in-Err-clause-answers
 returns-in-Err-clause-answers g c =
-    answers_more (IsRejectionDue c.args.steps c.args.bytes.now) (IsDueForText c.args.steps c.args.bytes.now) (λ due is. inr is) _ _ _ _ _
+    answers_more (IsRejectionDue c.args.steps c.args.bytes.now) (due_for Text c.args.steps c.args.bytes.now) (λ due is. inr is) _ _ _ _ _
     (c.refuse.ensures.answers _ _ (search rules))

@@ -1,5 +1,5 @@
 use Rattle.std.proofs.Common.{rules, refl, inl, inr, ◌∙◌, ap, Err}
-use Rattle.geo_cli.proofs.Answered.{concluded, long_log, part, spent_line, too_large_line}
+use Rattle.geo_cli.proofs.ProgramsDue.{concluded, long_log, part, spent_line, too_large_line}
 use Rattle.geo_cli.proofs.proving.prove_program.Goals as goal
 
 pub returns-in-Ok-clause-answers : goal.returns-in-Ok-clause-answers

@@ -1,11 +1,10 @@
 use Rattle.geo_cli.proofs.Begun.{begun}
 use Rattle.geo_cli.proofs.Decisive.{decisive}
-use Rattle.geo_cli.proofs.Placed.{done, unmet}
-use Rattle.geo_cli.proofs.Ended.{accepts, completes, decides, ends_in, has_number, misused, no_order, reads_nothing, takes_order}
+use Rattle.geo_cli.proofs.Ended.{completes, ends_in, has_number, misused, no_order, reads_nothing, takes_order}
 use Rattle.geo_cli.proofs.InPart.{in_part}
 use Rattle.geo_cli.proofs.OneDue.{one_is_called}
 use Rattle.geo_cli.proofs.SomeDue.{some_is_called}
-use Rattle.geo_cli.proofs.Uncited.{missed}
+use Rattle.geo_cli.proofs.Told.{accepts, decides, done, missed, unmet}
 use Rattle.geo_cli.proofs.run.run.Goals as goal
 
 pub carry_out-requires : goal.carry_out-requires
@@ -25,7 +24,7 @@ returns-in-Some-clause-unmet g c = λ number.
 
 pub returns-in-Some-clause-no_instance : goal.returns-in-Some-clause-no_instance
 returns-in-Some-clause-no_instance g c = λ line.
-    missed _ _ _ line _ _ _ _ _ _ _ (ends_in _ c.order_of.ensures.one _ c.in-Some.ensures.given _ _ _ _ _ _ _ _ _ c.carry_out.ensures.answers)
+    missed _ _ _ _ _ line _ _ _ _ _ (ends_in _ c.order_of.ensures.one _ c.in-Some.ensures.given _ _ _ _ _ _ _ _ _ c.carry_out.ensures.answers)
 
 pub returns-in-Some-clause-accepted : goal.returns-in-Some-clause-accepted
 returns-in-Some-clause-accepted g c = λ verdict.
