@@ -4,7 +4,7 @@ ghost use Rattle.std.specs.Prelude.{◌≡◌, ◌≤◌, ◌+◌, ◌*◌, ◌^
 ghost use Rattle.fraction_poly.specs.Inner.Drafts.{AllFit, AllLeaves, IsBoundedNumber, IsPartFor};
 ghost use Rattle.fraction_poly.specs.Inner.Drafts.{by_number, combined_form, combined_piece};
 ghost use Rattle.fraction_poly.specs.Inner.Drafts.{drafted_piece, form_of, no_terms, piece_bounds};
-ghost use Rattle.geo_poly.specs.declared.replacement.Piece.{Piece};
+ghost use Rattle.geo_poly.specs.declared.rows.Piece.{Piece};
 ghost use Rattle.geo_poly.specs.Rings.{Grows};
 ghost use Rattle.fraction_poly.specs.declared.drafts.Number.{Number};
 ghost use Rattle.fraction_poly.specs.declared.drafts.Number.TheVariants.{First, Second};
