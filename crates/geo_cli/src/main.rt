@@ -5,6 +5,7 @@
 //! origin; or writes the relations of its figure, each with its log.
 #![tactic(auto)]
 
+use crate::memory::keep_freed_memory;
 use crate::run::run;
 use geo_answers::Status;
 use geo_base::{ReaderSource, WriterSink};
@@ -19,6 +20,7 @@ mod citing;
 mod discovering;
 mod fixing;
 mod judging;
+mod memory;
 mod numbers;
 mod order;
 mod placing;
@@ -31,6 +33,7 @@ mod tests;
 mod values;
 
 fn main(rt: HostRuntime) -> ExitCode {
+    keep_freed_memory(rt.alloc());
     let status = match words_of(&rt) {
         Ok(words) => {
             let mut source = ReaderSource::new(rt.stdin());
