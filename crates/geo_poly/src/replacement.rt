@@ -24,6 +24,8 @@ use crate::limits::{MAX, MAX_DEGREE, PolyError, Which};
 use crate::lists::Vars;
 use crate::monomial_keys::MonomialKeys;
 use crate::nested::nested_chain;
+use crate::run_sums::nested_list;
+use crate::shared::Indexed;
 use crate::polynomial_variables::{union, with_others};
 use crate::polynomials::Poly;
 use crate::replacement_bounds::{degree_of_terms, most_denominators_of, weight_of_terms};
@@ -278,12 +280,33 @@ impl Poly {
         ensures ticks { ticks.new ≤ ticks.old
             + replacement_products rows.now den.now self.now }
     {
-        let mut arena = Arena::new(alloc)?;
         let names = vars.as_slice();
-        let chain = self.keyed_replacement(
-            alloc, rows, den, top, names, &mut words, &mut arena, ticks,
-        )?;
-        Poly::from_words(alloc, vars, words, arena, chain)
+        let list = self.word_replacement(alloc, rows, den, top, names, &mut words, ticks)?;
+        Poly::of_words(alloc, vars, words, list)
+    }
+
+    /// The list of the replacement, which fits, by words that have room for it.
+    fn word_replacement<L: Ledger>(
+        &self,
+        alloc: Global,
+        rows: &RowTable,
+        den: &Piece,
+        top: u32,
+        vars: &[Var],
+        words: &mut Digits,
+        ticks: &mut Ticks<L>,
+    ) -> Result<Vec<Indexed>, NoMemory>
+    {
+        let nums = stored_rows(alloc, words, vars, rows.rows())?;
+        let list = stored_poly(alloc, words, vars, &den.poly)?;
+        let setting = Setting {
+            vars,
+            rows,
+            nums: &nums,
+            den: StoredPiece { piece: den, list: &list },
+            top,
+        };
+        nested_list(alloc, &setting, words, &self.shared(), ticks)
     }
 
     /// The variables of all that the replacement is made of.

@@ -15,8 +15,11 @@ use mono_store::{Digits, MonoId};
 use std::alloc::{AllocError, Global};
 use term_runs::{Keyed, Runs};
 
+/// A word and a coefficient.
+pub(crate) type WordTerm = Keyed<u64, i128>;
+
 /// The terms of a list, as terms of a run.
-fn keyed_run(alloc: Global, list: &[Indexed]) -> Result<Vec<Keyed<u64, i128>>, AllocError>
+pub(crate) fn keyed_run(alloc: Global, list: &[Indexed]) -> Result<Vec<WordTerm>, AllocError>
     ensures { IfOk result
         (λ v. v.items ≡ map (λ t. record { key = t.0.0; coefficient = t.1 }) list.now) }
 {
@@ -29,7 +32,7 @@ fn keyed_run(alloc: Global, list: &[Indexed]) -> Result<Vec<Keyed<u64, i128>>, A
 }
 
 /// The terms of a run, as a list.
-fn indexed_run(alloc: Global, terms: &[Keyed<u64, i128>]) -> Result<Vec<Indexed>, AllocError>
+pub(crate) fn indexed_run(alloc: Global, terms: &[WordTerm]) -> Result<Vec<Indexed>, AllocError>
     ensures { IfOk result
         (λ v. v.items ≡ map (λ t. (record { 0 = t.key }, t.coefficient)) terms.now) }
 {
