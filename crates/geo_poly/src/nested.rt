@@ -41,7 +41,7 @@ use std::alloc::Global;
 use std::sync::ledger::Ledger;
 
 /// The list of the polynomial of a factor.
-fn list_of_factor<'a>(setting: &Setting<'a>, factor: usize) -> &'a [Indexed]
+pub(crate) fn list_of_factor<'a>(setting: &Setting<'a>, factor: usize) -> &'a [Indexed]
     ensures { (keys : Keys) → IsSetUnder setting.now keys
         → IsStoredUnder setting.now.vars.now keys result.now
         (piece_of setting.now.rows.now setting.now.den.piece.now factor).poly }

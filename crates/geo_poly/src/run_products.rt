@@ -1,6 +1,6 @@
 //! Products by words, as runs.
 
-ghost use Rattle.std.specs.Prelude.{◌≡◌, IfOk, map};
+ghost use Rattle.std.specs.Prelude.{◌≡◌, IfOk};
 ghost use Rattle.std.specs.List.Sorted.{IsStrictlySortedBy};
 ghost use Rattle.sparse_lists.specs.SparseLists.{AllKeys};
 ghost use Rattle.geo_poly.specs.Inner.Keyed.{AreInReach, IsIndexUnder, terms_under};
@@ -11,36 +11,9 @@ ghost use Rattle.geo_poly.specs.Variables.{var_cmp};
 use crate::shared::Indexed;
 use crate::variables::Var;
 use geo_points::NoMemory;
-use mono_store::{Digits, MonoId};
-use std::alloc::{AllocError, Global};
-use term_runs::{Keyed, Runs};
-
-/// A word and a coefficient.
-pub(crate) type WordTerm = Keyed<u64, i128>;
-
-/// The terms of a list, as terms of a run.
-pub(crate) fn keyed_run(alloc: Global, list: &[Indexed]) -> Result<Vec<WordTerm>, AllocError>
-    ensures { IfOk result
-        (λ v. v.items ≡ map (λ t. record { key = t.0.0; coefficient = t.1 }) list.now) }
-{
-    list.iter()
-        .map(|t| Keyed {
-            key: t.0.0,
-            coefficient: t.1,
-        })
-        .collect(alloc)
-}
-
-/// The terms of a run, as a list.
-pub(crate) fn indexed_run(alloc: Global, terms: &[WordTerm]) -> Result<Vec<Indexed>, AllocError>
-    ensures { IfOk result
-        (λ v. v.items ≡ map (λ t. (record { 0 = t.key }, t.coefficient)) terms.now) }
-{
-    terms
-        .iter()
-        .map(|t| (MonoId(t.key), t.coefficient))
-        .collect(alloc)
-}
+use mono_store::Digits;
+use std::alloc::Global;
+use term_runs::Runs;
 
 /// The list of the product, which fits, by words that have room for it.
 pub(crate) fn run_product(
@@ -66,10 +39,8 @@ pub(crate) fn run_product(
 {
     let _ = vars;
     let _count = words.words();
-    let first = keyed_run(alloc, left)?;
-    let second = keyed_run(alloc, right)?;
     let mut runs = Runs::new(alloc);
-    runs.push_product(&first, &second)?;
-    let list = indexed_run(alloc, runs.terms_from(0))?;
+    runs.push_product(left, right)?;
+    let list = Vec::from_slice(alloc, runs.terms_from(0))?;
     Ok(list)
 }

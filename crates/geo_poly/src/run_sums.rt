@@ -1,8 +1,9 @@
 //! Replacements by words, as runs: terms that share factors are added before these are multiplied in.
 
+use crate::chained_replacement::is_one;
+use crate::nested::list_of_factor;
 use crate::pending::{Pending, front_of, listed_terms, sorted_pending};
-use crate::run_products::{WordTerm, indexed_run, keyed_run};
-use crate::settings::{IndexList, Setting};
+use crate::settings::Setting;
 use crate::shared::{Indexed, Shared};
 use crate::sharing::{shared_factors, split_place};
 use crate::term_keys::{TermKeys, key_of_term, keys_of_terms};
@@ -11,65 +12,25 @@ use geo_points::NoMemory;
 use mono_store::Digits;
 use std::alloc::Global;
 use std::sync::ledger::Ledger;
-use term_runs::{Keyed, Runs};
+use term_runs::Runs;
 
 /// Runs one behind another, and room for one that is being multiplied.
 #[derive(Drop)]
 struct Sums {
-    runs: Runs<WordTerm>,
-    aside: Vec<WordTerm>,
-}
-
-/// The polynomial of a piece as a run.
-#[derive(Drop)]
-struct PieceRun {
-    terms: Vec<WordTerm>,
-}
-
-/// The runs of the pieces.
-#[derive(Drop)]
-struct PieceRuns {
-    nums: Vec<PieceRun>,
-    den: Vec<WordTerm>,
-}
-
-fn piece_runs(alloc: Global, setting: &Setting) -> Result<PieceRuns, NoMemory>
-{
-    let mut nums = Vec::with_capacity(alloc, setting.nums.len())?;
-    for list in setting.nums {
-        nums.push(PieceRun { terms: keyed_run(alloc, list.as_slice())? })?;
-    }
-    let den = keyed_run(alloc, setting.den.list)?;
-    Ok(PieceRuns { nums, den })
-}
-
-/// The run of the polynomial of a factor.
-fn run_of_factor<'a>(pieces: &'a PieceRuns, factor: usize) -> &'a [WordTerm]
-{
-    if factor == 0 || factor > pieces.nums.len() {
-        return pieces.den.as_slice();
-    }
-    pieces.nums[factor - 1].terms.as_slice()
-}
-
-fn is_one(list: &[WordTerm]) -> bool
-{
-    match list {
-        [term] => term.key == 0 && term.coefficient == 1,
-        _ => false,
-    }
+    runs: Runs<Indexed>,
+    aside: Vec<Indexed>,
 }
 
 /// The last run, which begins at the place, times the factor; it is not multiplied by 1.
 fn times_factor<L: Ledger>(
-    pieces: &PieceRuns,
+    setting: &Setting,
     sums: &mut Sums,
     base: usize,
     factor: usize,
     ticks: &mut Ticks<L>,
 ) -> Result<(), NoMemory>
 {
-    let list = run_of_factor(pieces, factor);
+    let list = list_of_factor(setting, factor);
     if is_one(list) {
         return Ok(());
     }
@@ -81,7 +42,7 @@ fn times_factor<L: Ledger>(
 
 /// The last run times these factors, the last one first.
 fn times_factors<L: Ledger>(
-    pieces: &PieceRuns,
+    setting: &Setting,
     sums: &mut Sums,
     base: usize,
     factors: &[usize],
@@ -91,7 +52,7 @@ fn times_factors<L: Ledger>(
     let mut i = factors.len();
     while i > 0 {
         i -= 1;
-        times_factor(pieces, sums, base, factors[i], ticks)?;
+        times_factor(setting, sums, base, factors[i], ticks)?;
     }
     Ok(())
 }
@@ -108,7 +69,7 @@ fn push_lone(
 ) -> Result<(), NoMemory>
 {
     let rest = key_of_term(alloc, setting, words, p, table, term)?;
-    sums.runs.push(Keyed { key: rest.0, coefficient: term.coefficient })?;
+    sums.runs.push((rest, term.coefficient))?;
     Ok(())
 }
 
@@ -139,7 +100,7 @@ fn push_run(
                 return Ok(false);
             }
         }
-        sums.runs.push(Keyed { key: rest.0, coefficient: term.coefficient })?;
+        sums.runs.push((rest, term.coefficient))?;
         last = Some(rest.0);
     }
     Ok(true)
@@ -153,7 +114,6 @@ fn push_nested<L: Ledger>(
     setting: &Setting,
     words: &mut Digits,
     sums: &mut Sums,
-    pieces: &PieceRuns,
     p: &Shared,
     table: &TermKeys,
     pending: &[Pending],
@@ -168,17 +128,17 @@ fn push_nested<L: Ledger>(
         [term] => {
             push_lone(alloc, setting, words, sums, p, table, term)?;
             let factors = term.factors_from(depth);
-            times_factors(pieces, sums, base, factors, ticks)
+            times_factors(setting, sums, base, factors, ticks)
         }
         _ => {
             let first = pending[0].factors_from(depth);
             let shared = shared_factors(first, pending, depth);
             let deeper = depth + shared;
             push_group(
-                alloc, setting, words, sums, pieces, p, table, pending, deeper, splits, ticks,
+                alloc, setting, words, sums, p, table, pending, deeper, splits, ticks,
             )?;
             let factors = front_of(first, shared);
-            times_factors(pieces, sums, base, factors, ticks)
+            times_factors(setting, sums, base, factors, ticks)
         }
     }
 }
@@ -191,7 +151,6 @@ fn push_group<L: Ledger>(
     setting: &Setting,
     words: &mut Digits,
     sums: &mut Sums,
-    pieces: &PieceRuns,
     p: &Shared,
     table: &TermKeys,
     pending: &[Pending],
@@ -204,7 +163,7 @@ fn push_group<L: Ledger>(
         return Ok(());
     }
     push_parts(
-        alloc, setting, words, sums, pieces, p, table, pending, depth, splits, ticks,
+        alloc, setting, words, sums, p, table, pending, depth, splits, ticks,
     )
 }
 
@@ -215,7 +174,6 @@ fn push_parts<L: Ledger>(
     setting: &Setting,
     words: &mut Digits,
     sums: &mut Sums,
-    pieces: &PieceRuns,
     p: &Shared,
     table: &TermKeys,
     pending: &[Pending],
@@ -228,11 +186,11 @@ fn push_parts<L: Ledger>(
     let (front, back) = pending.split_at(split_place(pending, depth, splits));
     let base = sums.runs.len();
     push_nested(
-        alloc, setting, words, sums, pieces, p, table, front, depth, more, ticks,
+        alloc, setting, words, sums, p, table, front, depth, more, ticks,
     )?;
     let middle = sums.runs.len();
     push_nested(
-        alloc, setting, words, sums, pieces, p, table, back, depth, more, ticks,
+        alloc, setting, words, sums, p, table, back, depth, more, ticks,
     )?;
     sums.runs.join(base, middle)?;
     Ok(())
@@ -250,11 +208,10 @@ pub(crate) fn nested_list<L: Ledger>(
     let listing = listed_terms(alloc, setting, words, p)?;
     let pending = sorted_pending(alloc, setting.rows.rows(), &listing)?;
     let table = keys_of_terms(alloc, setting, words, p, &listing)?;
-    let pieces = piece_runs(alloc, setting)?;
     let mut sums = Sums { runs: Runs::new(alloc), aside: Vec::new(alloc) };
     push_nested(
-        alloc, setting, words, &mut sums, &pieces, p, &table, &pending, 0, 0, ticks,
+        alloc, setting, words, &mut sums, p, &table, &pending, 0, 0, ticks,
     )?;
-    let list = indexed_run(alloc, sums.runs.terms_from(0))?;
+    let list = Vec::from_slice(alloc, sums.runs.terms_from(0))?;
     Ok(list)
 }

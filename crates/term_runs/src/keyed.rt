@@ -5,7 +5,7 @@ ghost use Rattle.std.specs.Prelude.{false, true, unsigned_abs};
 
 use crate::terms::Term;
 
-/// A number below a bound.
+/// What stands for a number below a bound.
 pub trait Key: Copy + Drop {
     ghost number: { Self → ℕ };
 
@@ -150,51 +150,36 @@ impl Coefficient for i128 {
     }
 }
 
-/// A key with a coefficient.
-#[derive(Clone, Copy, Drop)]
-pub struct Keyed<K: Key, C: Coefficient> {
-    pub key: K,
-    pub coefficient: C,
-}
-
-impl<K: Key, C: Coefficient> Term for Keyed<K, C> {
-    ghost pair = { λ t. (K.number t.key, C.value t.coefficient) };
+impl<K: Key, C: Coefficient> Term for (K, C) {
+    ghost pair = { λ t. (K.number t.0, C.value t.1) };
 
     ghost keys = { K.bound };
 
     ghost size = { C.most };
 
     #[inline(always)]
-    fn filler() -> Keyed<K, C> {
-        Keyed {
-            key: K::zero(),
-            coefficient: C::zero(),
-        }
+    fn filler() -> (K, C) {
+        (K::zero(), C::zero())
     }
 
     #[inline(always)]
-    fn is_before(self, other: Keyed<K, C>) -> bool {
-        other.key.is_below(self.key)
+    fn is_before(self, other: (K, C)) -> bool {
+        other.0.is_below(self.0)
     }
 
     #[inline(always)]
     fn is_zero(self) -> bool {
-        self.coefficient.is_zero()
+        self.1.is_zero()
     }
 
     #[inline(always)]
-    fn taken(self, other: Keyed<K, C>, left: bool, right: bool) -> Keyed<K, C> {
-        Keyed {
-            key: if left { self.key } else { other.key },
-            coefficient: self.coefficient.taken(other.coefficient, left, right),
-        }
+    fn taken(self, other: (K, C), left: bool, right: bool) -> (K, C) {
+        let key = if left { self.0 } else { other.0 };
+        (key, self.1.taken(other.1, left, right))
     }
 
     #[inline(always)]
-    fn times(self, other: Keyed<K, C>) -> Keyed<K, C> {
-        Keyed {
-            key: self.key.plus(other.key),
-            coefficient: self.coefficient.times(other.coefficient),
-        }
+    fn times(self, other: (K, C)) -> (K, C) {
+        (self.0.plus(other.0), self.1.times(other.1))
     }
 }

@@ -9,6 +9,6 @@ mod room;
 mod runs;
 mod terms;
 
-pub use keyed::{Coefficient, Key, Keyed};
+pub use keyed::{Coefficient, Key};
 pub use runs::Runs;
 pub use terms::Term;
