@@ -105,7 +105,7 @@ fn row_of_reading(alloc: Global, step: Step, reading: Reading) -> Result<Option<
     ensures terms { IfOk result (λ o. ForSome o (λ d. d.terms ≡ step_terms step)) }
 {
     let (power, num) = match reading {
-        Reading::Linear(a, b) => (1, linear_numerator(alloc, step, a, b)?),
+        Reading::Linear(a, b) => (1, linear_pythagoras(alloc, step, a, b)?),
         Reading::Quadratic(a, b) => {
             let num = quadratic_numerator(alloc, step, a, b)?;
             (quadratic_power(step), num)
@@ -118,7 +118,7 @@ fn row_of_reading(alloc: Global, step: Step, reading: Reading) -> Result<Option<
 }
 
 /// The numerator of `P_ABY`, where the step makes Y.
-fn linear_numerator(
+fn linear_pythagoras(
     alloc: Global,
     step: Step,
     a: PointId,
@@ -134,14 +134,14 @@ fn linear_numerator(
         Step::Inter { u, v, p, q } => crossing_numerator(alloc, u, v, p, q, difference)?,
         Step::Foot { p, u, v } => foot_numerator(alloc, p, u, v, difference)?,
         Step::Pratio { w, u, v, r: _ } => along_numerator(alloc, w, u, v, difference)?,
-        Step::Tratio { u, v, r: _ } => turned_numerator(alloc, u, v, a, b)?,
+        Step::Tratio { u, v, r: _ } => turned_pythagoras(alloc, u, v, a, b)?,
         Step::Weights { o, u, v, .. } => weights_numerator(alloc, o, u, v, difference)?,
     };
     Ok(Some(numerator))
 }
 
 /// `4 d P_ABU - 16 n (S_UAB - S_VAB)`, where `Y - U = n/d J (V - U)`.
-fn turned_numerator(
+fn turned_pythagoras(
     alloc: Global,
     u: PointId,
     v: PointId,

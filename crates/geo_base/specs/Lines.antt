@@ -1,7 +1,7 @@
 -- Reading line by line: what a reader of lines keeps, and what a call hands out.
 use Rattle.std.specs.Prelude.{ℕ, Bool, true, false, List, [], ◌∷◌, ◌++◌, Option, option_map, Result, Ok, Err}
-use Rattle.geo_base.specs.declared.lines.NextLine.{NextLine}
-use Rattle.geo_base.specs.declared.lines.NextLine.TheVariants.{Line, Rest}
+use Rattle.geo_base.specs.declared.next_line.NextLine.{NextLine}
+use Rattle.geo_base.specs.declared.next_line.NextLine.TheVariants.{Line, Rest}
 
 -- a reader of lines
 pub record ReaderState : Type 0 where

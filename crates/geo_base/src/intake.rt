@@ -5,7 +5,7 @@ ghost use Rattle.std.specs.Bool.{MatchBool};
 ghost use Rattle.geo_base.specs.Devices.{HasEnded, HasRisen, Loses};
 ghost use Rattle.geo_base.specs.Lines.{handed_out, is_rest, line_feed, open_bytes, text_of};
 
-use crate::lines::NextLine;
+use crate::next_line::NextLine;
 use crate::piece::Piece;
 use crate::reading::{ReadError, Source};
 use crate::texts::Text;

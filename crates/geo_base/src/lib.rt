@@ -5,8 +5,9 @@
 pub use adapters::{ReaderSource, WriterSink};
 pub use budgets::{Budget, Spent};
 pub use decimals::{DecimalError, push_decimal, read_decimal};
-pub use lines::{LineReader, NextLine};
+pub use lines::LineReader;
 pub use memory::{MemSink, MemSource};
+pub use next_line::NextLine;
 pub use no_memory::NoMemory;
 pub use reading::{Failed, ReadError, Source, read_all};
 pub use sure::{SureSink, SureSource};
@@ -19,6 +20,7 @@ mod decimals;
 mod intake;
 mod lines;
 mod memory;
+mod next_line;
 mod no_memory;
 mod piece;
 mod reading;

@@ -4,20 +4,11 @@ ghost use Rattle.std.specs.Prelude.{IsErrOf, IsTrue, OnErr, OnOk};
 ghost use Rattle.geo_base.specs.Devices.{HasEnded, HasRisen, Loses};
 
 use crate::intake::Intake;
+use crate::next_line::NextLine;
 use crate::no_memory::NoMemory;
 use crate::reading::{ReadError, Source};
-use crate::texts::Text;
 use std::alloc::Global;
 use std::marker::Model;
-
-/// What a reader of lines hands out.
-#[derive(Debug, Drop)]
-pub enum NextLine {
-    /// A line, without the line feed that ends it.
-    Line(Text),
-    /// What follows the last line feed, at the end of the input. It may be empty.
-    Rest(Text),
-}
 
 /// A reader of lines. It takes bytes from a source in large pieces and keeps those that it has not
 /// handed out yet, so it is given the same source at each call.

@@ -1,7 +1,7 @@
 -- Factor after factor multiplied in makes what the products of the factors make.
 use Rattle.std.proofs.Common.{◌≡◌, ℕ, zero, suc, ◌-◌, ℤ, pos, Option, Some, None, List, [], ◌∷◌, ◌++◌, refl, sym, ap, ap₂, ◌∙◌, append_assoc}
 use Rattle.sparse_lists.specs.SparseLists.{AllKeys, IsCanonical}
-use Rattle.geo_poly.specs.declared.replacement.Row.{Row}
+use Rattle.geo_poly.specs.declared.rows.Row.{Row}
 use Rattle.geo_poly.specs.Monomials.{Powers, IsMonomial}
 use Rattle.sparse_lists.specs.Coefficients.{coefficients}
 use Rattle.geo_poly.specs.Polynomials.{Summands, constant_of, product_of, term_cmp}

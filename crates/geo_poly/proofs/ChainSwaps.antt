@@ -4,7 +4,7 @@ use Rattle.std.specs.Prelude.{Option, Result, Ok, Err, IfOk, OnErr}
 use Rattle.mono_store.specs.Stores.{Keeps, Store}
 use Rattle.sparse_lists.specs.Coefficients.{Pairs}
 use Rattle.poly_arena.specs.Chains.{Chains, Updates, list_of}
-use Rattle.geo_poly.specs.declared.replacement.Row.{Row}
+use Rattle.geo_poly.specs.declared.rows.Row.{Row}
 use Rattle.geo_poly.specs.declared.settings.Setting.{Setting}
 use Rattle.geo_poly.specs.declared.variables.Var.{Var}
 use Rattle.geo_poly.specs.Chained.{AddsChain, SameChains}

@@ -19,8 +19,8 @@ use Rattle.sparse_lists.proofs.NaturalAmounts.{natural_order}
 use Rattle.mono_store.specs.Monomials.{Powers as NumberedPowers}
 use Rattle.mono_store.specs.Stores.{Store, monomial_of}
 use Rattle.mono_store.proofs.Numbers.{is_below}
-use Rattle.geo_poly.specs.declared.replacement.Piece.{Piece}
-use Rattle.geo_poly.specs.declared.replacement.Row.{Row}
+use Rattle.geo_poly.specs.declared.rows.Piece.{Piece}
+use Rattle.geo_poly.specs.declared.rows.Row.{Row}
 use Rattle.geo_poly.specs.declared.variables.Var.{Var}
 use Rattle.geo_poly.specs.Inner.Keyed.{greatest_exponent, greatest_of_rows}
 use Rattle.geo_poly.specs.Inner.Limits.{AreBounds, AreGreatest, AreLimits, HaveRoom, IsBelow, exponent_anywhere, exponents_of_rows}

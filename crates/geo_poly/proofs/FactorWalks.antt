@@ -4,7 +4,7 @@ use Rattle.std.specs.Prelude.{◌≢◌, IfNone, IfSome, ℤ, slice_get}
 use Rattle.std.proofs.lemmas.List.{append-nil}
 use Rattle.geo_poly.specs.declared.pending.FactorPower.{FactorPower}
 use Rattle.geo_poly.specs.declared.pending.Found.{Found}
-use Rattle.geo_poly.specs.declared.replacement.Row.{Row}
+use Rattle.geo_poly.specs.declared.rows.Row.{Row}
 use Rattle.geo_poly.specs.declared.settings.Setting.{Setting}
 use Rattle.geo_poly.specs.declared.variables.Var.{Var}
 use Rattle.geo_poly.specs.Inner.Accumulated.{accumulated_term}

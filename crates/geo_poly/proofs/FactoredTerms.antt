@@ -10,7 +10,7 @@ use Rattle.std.specs.List.Sorted.{IsPermutation}
 use Rattle.sparse_lists.specs.SparseLists.{AllKeys, IsCanonical}
 use Rattle.sparse_lists.proofs.Canonical.{amount-append, canonical_same, canonical_self}
 use Rattle.sparse_lists.proofs.Sums.{AllKeys-canonical, AllKeys-append}
-use Rattle.geo_poly.specs.declared.replacement.Piece.{Piece}
+use Rattle.geo_poly.specs.declared.rows.Piece.{Piece}
 use Rattle.geo_poly.specs.Inner.Factored.{Factored, count_with, degree_with, factored_products, factored_terms, factored_weight, products_with, times_pieces, weight_with}
 use Rattle.geo_poly.specs.Monomials.{IsMonomial, Powers, degree_of}
 use Rattle.sparse_lists.specs.Coefficients.{coefficients}

@@ -4,7 +4,7 @@ use Rattle.std.proofs.Common.{◌≡◌, ℕ, zero, suc, ◌+◌, ◌*◌, ◌�
 use Rattle.sparse_lists.specs.SparseLists.{AllKeys}
 use Rattle.sparse_lists.proofs.Canonical.{amount-append, amount-canonical}
 use Rattle.sparse_lists.proofs.Sums.{AllKeys-append, AllKeys-canonical}
-use Rattle.geo_poly.specs.declared.replacement.Piece.{Piece}
+use Rattle.geo_poly.specs.declared.rows.Piece.{Piece}
 use Rattle.geo_poly.specs.declared.variables.Var.{Var}
 use Rattle.geo_poly.specs.Inner.Factored.{Factored, degree_with, factored_terms, times_pieces}
 use Rattle.geo_poly.specs.Monomials.{Powers, degree_of, exponent, exponents, product}

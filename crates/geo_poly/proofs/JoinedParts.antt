@@ -10,7 +10,7 @@ use Rattle.sparse_lists.specs.Coefficients.{coefficients, Pairs}
 use Rattle.poly_arena.specs.Chains.{Chains, Merges, pairs_of}
 use Rattle.geo_poly.specs.Chained.{AddsChain, SameChains, StandsUnder, keyed_terms_under}
 use Rattle.geo_poly.specs.declared.pending.Pending.{Pending}
-use Rattle.geo_poly.specs.declared.replacement.Piece.{Piece}
+use Rattle.geo_poly.specs.declared.rows.Piece.{Piece}
 use Rattle.geo_poly.specs.declared.settings.Setting.{Setting}
 use Rattle.geo_poly.specs.declared.shared.Shared.{Shared}
 use Rattle.geo_poly.specs.declared.variables.Var.{Var}

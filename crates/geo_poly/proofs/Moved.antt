@@ -15,7 +15,7 @@ use Rattle.mono_store.proofs.Numbers.{exponents_add as numbered_add}
 use Rattle.mono_store.proofs.Products.{IsPowerBefore}
 use Rattle.mono_store.proofs.Unfolding.{monomial_of-one}
 use Rattle.mono_store.proofs.WordOrder.{word_count-some}
-use Rattle.geo_poly.specs.declared.replacement.Row.{Row}
+use Rattle.geo_poly.specs.declared.rows.Row.{Row}
 use Rattle.geo_poly.specs.declared.shared.Shared.{Shared}
 use Rattle.geo_poly.specs.declared.variables.Var.{Var}
 use Rattle.geo_poly.specs.Monomials.{Powers, IsMonomial, exponents}

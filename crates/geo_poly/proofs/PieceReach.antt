@@ -2,7 +2,7 @@
 use Rattle.std.proofs.Common.{◌≡◌, ℕ, ◌+◌, ◌≤◌, ℤ, List, [], ◌∷◌, ◌++◌, refl, ap, arith}
 use Rattle.sparse_lists.specs.SparseLists.{AllKeys}
 use Rattle.sparse_lists.proofs.Sums.{AllKeys-append, AllKeys-canonical}
-use Rattle.geo_poly.specs.declared.replacement.Piece.{Piece}
+use Rattle.geo_poly.specs.declared.rows.Piece.{Piece}
 use Rattle.geo_poly.specs.declared.variables.Var.{Var}
 use Rattle.geo_poly.specs.Inner.Factored.{times_pieces}
 use Rattle.geo_poly.specs.Inner.Keyed.{AreInReach, ArePiecesInReach, exponent_with, greatest_exponent}

@@ -10,7 +10,7 @@ use Rattle.ring_laws.proofs.Laws as Laws
 use Rattle.ring_laws.proofs.Sound.{agree}
 use Rattle.ring_laws.proofs.Powers.{power-add, power-times, power-power, power-same}
 use Rattle.geo_poly.specs.declared.variables.Var.{Var}
-use Rattle.geo_poly.specs.declared.replacement.Row.{Row}
+use Rattle.geo_poly.specs.declared.rows.Row.{Row}
 use Rattle.geo_poly.specs.Variables.{var_cmp}
 use Rattle.geo_poly.specs.Monomials.{Powers}
 use Rattle.geo_poly.specs.Polynomials.{Summands, constant_of, product_of}

@@ -5,8 +5,8 @@ use Rattle.std.proofs.Math.Nat.{mul_assoc}
 use Rattle.std.proofs.lemmas.List.{length-append, take-append-drop}
 use Rattle.std.proofs.lemmas.List.Sums.{sum_by-cons}
 use Rattle.geo_poly.specs.Counted.{count_row, count_rows, products_of_terms, replaced_exponents, term_products}
-use Rattle.geo_poly.specs.declared.replacement.Piece.{Piece}
-use Rattle.geo_poly.specs.declared.replacement.Row.{Row}
+use Rattle.geo_poly.specs.declared.rows.Piece.{Piece}
+use Rattle.geo_poly.specs.declared.rows.Row.{Row}
 use Rattle.geo_poly.specs.declared.variables.Var.{Var}
 use Rattle.geo_poly.specs.Inner.TermFactors.{AreNonzeroRows, IsNonzeroRow}
 use Rattle.geo_poly.specs.Monomials.{Powers}

@@ -10,7 +10,7 @@ use Rattle.sparse_lists.specs.SparseLists.{AllKeys}
 use Rattle.sparse_lists.proofs.Merging.{get_or_any}
 use Rattle.mono_store.specs.Monomials.{Powers as NumberedPowers}
 use Rattle.mono_store.specs.Stores.{Keeps, Store, monomial_of}
-use Rattle.geo_poly.specs.declared.replacement.Row.{Row}
+use Rattle.geo_poly.specs.declared.rows.Row.{Row}
 use Rattle.geo_poly.specs.declared.variables.Var.{Var}
 use Rattle.geo_poly.specs.declared.variables.Var.TheVariants.{R}
 use Rattle.geo_poly.specs.Inner.Moved.{IsPlaceOf}

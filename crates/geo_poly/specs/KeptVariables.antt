@@ -1,6 +1,6 @@
 -- What holds of each variable of some polynomials holds of each variable of what is made of them.
 use Rattle.std.specs.Prelude.{◌≡◌, ℤ, None, List, [], ◌∷◌, Contains}
-use Rattle.geo_poly.specs.declared.replacement.Row.{Row}
+use Rattle.geo_poly.specs.declared.rows.Row.{Row}
 use Rattle.geo_poly.specs.declared.variables.Var.{Var}
 use Rattle.geo_poly.specs.Cuts.{IsCut}
 use Rattle.geo_poly.specs.Monomials.{Powers}

@@ -3,8 +3,8 @@ use Rattle.std.specs.Prelude.{ℕ, zero, suc, ◌+◌, ◌*◌, ◌-◌, ◌^◌
 use Rattle.std.specs.Prelude.{find, length, sum_by, unsigned_abs}
 use Rattle.std.specs.Ordering.{is_eq}
 use Rattle.geo_poly.specs.declared.variables.Var.{Var}
-use Rattle.geo_poly.specs.declared.replacement.Piece.{Piece}
-use Rattle.geo_poly.specs.declared.replacement.Row.{Row}
+use Rattle.geo_poly.specs.declared.rows.Piece.{Piece}
+use Rattle.geo_poly.specs.declared.rows.Row.{Row}
 use Rattle.geo_poly.specs.Variables.{var_cmp}
 use Rattle.sparse_lists.specs.SparseLists.{AllKeys, IsCanonical}
 use Rattle.geo_poly.specs.Monomials.{Powers, IsMonomial, degree_of}

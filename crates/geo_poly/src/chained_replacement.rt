@@ -24,9 +24,9 @@ use crate::chained::{multiples_chain, product_chain};
 use crate::interning::place_near;
 use crate::monomial_keys::MonomialKeys;
 use crate::moving::{Move, MovedMonomials, keyed, keyed_near};
-use crate::polynomials::Poly;
-use crate::replacement::Row;
+use crate::poly::Poly;
 use crate::row_table::RowTable;
+use crate::rows::Row;
 use crate::settings::IndexList;
 use crate::shared::Indexed;
 use crate::ticks::Ticks;
@@ -287,34 +287,4 @@ pub(crate) fn list_at(lists: &[IndexList], i: usize) -> &[Indexed]
     ensures { slice_get lists.now i ≡ Some result.now }
 {
     lists[i].as_slice()
-}
-
-/// The key of the monomial of the variables with no row.
-pub(crate) fn stored_others<K: MonomialKeys>(
-    keys: &mut K,
-    vars: &[Var],
-    rows: &RowTable,
-    powers: &[(Var, u32)],
-) -> Result<MonoId, NoMemory>
-    requires rising { IsStrictlySortedBy var_cmp vars.now }
-    requires monomial { IsMonomial powers.now }
-    requires known { AllKeys (Contains vars.now) powers.now }
-    requires reach { HasRoom vars.now (K.keys keys.old) (others rows.now powers.now) }
-    ensures index { IfOk result (IsIndexUnder vars.now (K.keys keys.new)) }
-    ensures powers { IfOk result
-        (λ id. named vars.now ((K.keys keys.new).powers id.0) ≡ others rows.now powers.now) }
-    ensures kept { KeepsKeys (K.keys keys.old) (K.keys keys.new) }
-{
-    let mut key = keys.one();
-    let mut i = powers.len();
-    while i > 0 {
-        i -= 1;
-        let (v, exponent) = powers[i];
-        let guess = i as u64;
-        match rows.find_row(v, guess) {
-            Some(_) => {}
-            None => key = keys.power_before(place_near(vars, v, guess), exponent, key)?,
-        }
-    }
-    Ok(MonoId(key))
 }

@@ -10,9 +10,10 @@ ghost use Rattle.geo_poly.specs.Polynomials.{product_of};
 ghost use Rattle.geo_poly.specs.Factors.{DividesAll, IsFactorOf, IsLeastExponent};
 ghost use Rattle.geo_poly.specs.Shared.{AreParts, IsIndexOf, terms_of, told};
 
+use crate::exact_quotients::exact_quotient;
 use crate::factors::Factor;
 use crate::monomials::Monomial;
-use crate::polynomials::Poly;
+use crate::poly::Poly;
 use crate::reading::{exponent_at, monomial_at};
 use crate::shared::{Indexed, Shared};
 use crate::terms::Term;
@@ -236,14 +237,4 @@ fn quotients(
         }
     }
     Ok(Some(rest))
-}
-
-/// What times d is c, where there is such a number.
-pub(crate) fn exact_quotient(c: i128, d: i128) -> Option<i128>
-    requires nonzero { unsigned_abs d ≢ 0 }
-    requires fits { unsigned_abs c < 2 ^ 127 }
-    ensures some { IfSome result (λ q. d *ℤ q ≡ c) }
-    ensures none { IfNone result ((q : ℤ) → d *ℤ q ≡ c → ⊥) }
-{
-    if c % d == 0 { Some(c / d) } else { None }
 }

@@ -13,10 +13,10 @@ ghost use Rattle.geo_poly.specs.Replace.{others};
 ghost use Rattle.geo_poly.specs.Shared.{AreParts, IsIndexOf, told, told_powers};
 ghost use Rattle.geo_poly.specs.Variables.{var_cmp};
 
-use crate::moving::find_place;
-use crate::replacement::{Piece, Row};
 use crate::row_table::RowTable;
+use crate::rows::{Piece, Row};
 use crate::shared::Shared;
+use crate::variable_places::find_place;
 use crate::variables::Var;
 use geo_points::NoMemory;
 use mono_store::{Digits, MonoId};

@@ -10,9 +10,9 @@ ghost use Rattle.geo_poly.specs.PolynomialVariables.{AllVariables};
 ghost use Rattle.geo_poly.specs.Shared.{IsIndex, powers_at, terms_of, var_at};
 ghost use Rattle.geo_poly.specs.Variables.{var_cmp};
 
-use crate::moving::find_place;
 use crate::shared::Indexed;
 use crate::terms::Term;
+use crate::variable_places::find_place;
 use crate::variables::Var;
 use geo_points::NoMemory;
 use mono_store::{MonoId, Monos};

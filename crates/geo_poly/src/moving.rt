@@ -5,7 +5,7 @@ ghost use Rattle.std.specs.Prelude.{◌≡◌, ℕ, ◌+◌, ◌<◌, ◌∷◌,
 ghost use Rattle.std.specs.Prelude.{List, slice_index_or};
 ghost use Rattle.std.specs.List.Sorted.{IsStrictlySortedBy};
 ghost use Rattle.geo_poly.specs.declared.moving.Move.TheVariants.{Unknown};
-ghost use Rattle.geo_poly.specs.declared.replacement.Row.{Row};
+ghost use Rattle.geo_poly.specs.declared.rows.Row.{Row};
 ghost use Rattle.geo_poly.specs.declared.variables.Var.{Var};
 ghost use Rattle.geo_poly.specs.Keys.{Keys};
 ghost use Rattle.sparse_lists.specs.SparseLists.{AllKeys};
@@ -21,12 +21,13 @@ ghost use Rattle.geo_poly.specs.Inner.Keyed.{terms_under};
 ghost use Rattle.geo_poly.specs.Inner.Moved.{AreMoved, AreMovedLinks, AreMoves, ArePlaces, IsMoveOf, IsMovedTo};
 ghost use Rattle.geo_poly.specs.Inner.Moved.{IsMovedKey, IsPlaceOf, IsSame};
 
-use crate::chained_replacement::stored_others;
+use crate::interning::place_near;
 use crate::monomial_keys::MonomialKeys;
 use crate::polynomial_variables::mark;
 use crate::reading::monomial_at;
 use crate::row_table::RowTable;
 use crate::shared::{Indexed, Shared};
+use crate::variable_places::{find_place, guessed_place};
 use crate::variables::Var;
 use geo_points::NoMemory;
 use mono_store::{Link, MonoId, Monos};
@@ -38,9 +39,6 @@ const FEW_TERMS: usize = 8;
 
 /// Among so few links no walk goes deep.
 const FEW_LINKS: u64 = 64;
-
-/// A variable is looked for at so many places before all are searched.
-const NEAR: usize = 8;
 
 /// What becomes of a variable.
 #[derive(Clone, Copy)]
@@ -269,6 +267,36 @@ fn read_index<K: MonomialKeys>(
     }
     let monomial = monomial_at(alloc, p, id)?;
     stored_others(keys, vars, rows, monomial.powers())
+}
+
+/// The key of the monomial of the variables with no row.
+fn stored_others<K: MonomialKeys>(
+    keys: &mut K,
+    vars: &[Var],
+    rows: &RowTable,
+    powers: &[(Var, u32)],
+) -> Result<MonoId, NoMemory>
+    requires rising { IsStrictlySortedBy var_cmp vars.now }
+    requires monomial { IsMonomial powers.now }
+    requires known { AllKeys (Contains vars.now) powers.now }
+    requires reach { HasRoom vars.now (K.keys keys.old) (others rows.now powers.now) }
+    ensures index { IfOk result (IsIndexUnder vars.now (K.keys keys.new)) }
+    ensures powers { IfOk result
+        (λ id. named vars.now ((K.keys keys.new).powers id.0) ≡ others rows.now powers.now) }
+    ensures kept { KeepsKeys (K.keys keys.old) (K.keys keys.new) }
+{
+    let mut key = keys.one();
+    let mut i = powers.len();
+    while i > 0 {
+        i -= 1;
+        let (v, exponent) = powers[i];
+        let guess = i as u64;
+        match rows.find_row(v, guess) {
+            Some(_) => {}
+            None => key = keys.power_before(place_near(vars, v, guess), exponent, key)?,
+        }
+    }
+    Ok(MonoId(key))
 }
 
 /// The keys of what is left of the monomials without the variables of the rows, where the list
@@ -667,75 +695,5 @@ fn after(place: Option<u64>, guess: u64) -> u64 {
     match place {
         Some(place) => place.saturating_add(1),
         None => guess,
-    }
-}
-
-/// The place of a variable in the list, where it stands there and it is found: it is looked for near
-/// the place where it is supposed to stand, and is not searched where it would stand there.
-pub(crate) fn guessed_place(vars: &[Var], v: Var, guess: u64) -> Option<u64>
-    requires { IsStrictlySortedBy var_cmp vars.now }
-    ensures { IfSome result (λ k. IsPlaceOf vars.now v (Some k)) }
-{
-    let place = guess as usize;
-    let order = match vars.get(place) {
-        Some(w) => w.cmp(&v),
-        None => Ordering::Greater,
-    };
-    match order {
-        Ordering::Equal => Some(guess),
-        Ordering::Less => near_place(vars, v, place),
-        Ordering::Greater => {
-            if is_behind(vars, place, v) {
-                return None;
-            }
-            searched_place(vars, v)
-        }
-    }
-}
-
-/// Whether a variable comes after the one before a place.
-fn is_behind(vars: &[Var], place: usize, v: Var) -> bool {
-    place == 0
-        || match vars.get(place - 1) {
-            Some(w) => *w < v,
-            None => false,
-        }
-}
-
-/// The place of a variable, which stands behind a place, and mostly not far.
-fn near_place(vars: &[Var], v: Var, place: usize) -> Option<u64>
-    requires { IsStrictlySortedBy var_cmp vars.now }
-    ensures { IfSome result (λ k. IsPlaceOf vars.now v (Some k)) }
-{
-    let first = place.saturating_add(1);
-    let near = first.saturating_add(NEAR).min(vars.len());
-    for i in first..near {
-        if vars[i] == v {
-            return Some(i as u64);
-        }
-    }
-    searched_place(vars, v)
-}
-
-/// The place of a variable in the list, where it stands there. It is looked for first where it is
-/// supposed to stand.
-pub(crate) fn find_place(vars: &[Var], v: Var, guess: u64) -> Option<u64>
-    requires { IsStrictlySortedBy var_cmp vars.now }
-    ensures { IsPlaceOf vars.now v result }
-{
-    match vars.get(guess as usize) {
-        Some(w) if *w == v => Some(guess),
-        _ => searched_place(vars, v),
-    }
-}
-
-/// The place of a variable in the list, where it stands there, by a search.
-fn searched_place(vars: &[Var], v: Var) -> Option<u64>
-    requires { IsStrictlySortedBy var_cmp vars.now }
-    ensures { IsPlaceOf vars.now v result }
-{
-    match vars.binary_search(&v) {
-        Ok(place) => Some(place as u64),
-        Err(_) => None,
     }
 }

@@ -5,9 +5,9 @@ ghost use Rattle.geo_poly.specs.Polynomials.{IsPolynomial};
 ghost use Rattle.geo_poly.specs.Shared.{AreParts, told, var_at};
 ghost use Rattle.geo_poly.specs.Specialise.{degree_in};
 
-use crate::moving::find_place;
-use crate::polynomials::Poly;
+use crate::poly::Poly;
 use crate::shared::Shared;
+use crate::variable_places::find_place;
 use crate::variables::Var;
 use std::cmp::Ordering;
 

@@ -16,8 +16,8 @@ ghost use Rattle.geo_poly.specs.Shared.{AreParts, IsIndexOf, told, told_powers};
 ghost use Rattle.geo_poly.specs.Variables.{var_cmp};
 
 use crate::monomial_keys::MonomialKeys;
-use crate::replacement::Row;
 use crate::roles::{Role, role_at, roles_of};
+use crate::rows::Row;
 use crate::settings::Setting;
 use crate::shared::{FirstPower, Indexed, Shared};
 use geo_points::NoMemory;

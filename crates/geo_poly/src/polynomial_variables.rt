@@ -18,12 +18,11 @@ ghost use Rattle.geo_poly.specs.Variables.{var_cmp};
 ghost use Rattle.geo_poly.specs.PolynomialVariables.{HasVariable, variables_of};
 ghost use Rattle.geo_poly.specs.Shared.{AreParts, IsIndexOf, told, told_powers};
 
-use crate::lists::Vars;
-use crate::moving::find_place;
-use crate::polynomials::Poly;
+use crate::poly::Poly;
 use crate::shared::{Indexed, Shared};
 use crate::terms::Term;
-use crate::variables::Var;
+use crate::variable_places::find_place;
+use crate::variables::{Var, Vars};
 use geo_points::NoMemory;
 use mono_store::{Digits, MonoId};
 use std::alloc::Global;

@@ -21,18 +21,18 @@ ghost use Rattle.geo_poly.specs.Variables.{var_cmp};
 use crate::chained_replacement::{stored_poly, stored_rows};
 use crate::exponent_limits::{digits_for, replacement_limits};
 use crate::limits::{MAX, MAX_DEGREE, PolyError, Which};
-use crate::lists::Vars;
 use crate::monomial_keys::MonomialKeys;
 use crate::nested::nested_chain;
+use crate::poly::Poly;
 use crate::polynomial_variables::{union, with_others};
-use crate::polynomials::Poly;
 use crate::replacement_bounds::{degree_of_terms, most_denominators_of, weight_of_terms};
 use crate::roomy_stores::roomy_store;
 use crate::row_table::RowTable;
+use crate::rows::{Piece, Row};
 use crate::settings::{IndexList, Setting, StoredPiece};
 use crate::term_limits::limits_by_terms;
 use crate::ticks::Ticks;
-use crate::variables::Var;
+use crate::variables::{Var, Vars};
 use geo_points::NoMemory;
 use mono_store::{Digits, Monos};
 use poly_arena::{Arena, Chain};
@@ -42,32 +42,6 @@ use std::sync::ledger::Ledger;
 /// With more variables than these, limits of their exponents are not reckoned: of the 64 bits of a word each
 /// variable that occurs takes one or more.
 const MOST_NAMES: usize = 128;
-
-/// A polynomial with numbers that bound its size, which are known before it is multiplied out. They
-/// are promised only where a contract says `IsBounded`.
-#[derive(Drop)]
-pub struct Piece {
-    /// The polynomial.
-    pub poly: Poly,
-    /// At least 1 and at least the norm.
-    pub weight: u128,
-    /// At least the number of monomials, and at most the weight.
-    pub count: u128,
-    /// At least the degree.
-    pub degree: u128,
-}
-
-/// What stands for a variable: the variable times the denominator to the power is the numerator. Of
-/// several rows of one variable the first counts.
-#[derive(Drop)]
-pub struct Row {
-    /// The variable that is replaced.
-    pub var: Var,
-    /// The power of the denominator, at most 2.
-    pub power: u32,
-    /// The numerator.
-    pub num: Piece,
-}
 
 impl Poly {
     /// Replaces the variables of the rows at once, and multiplies by the denominator as often as

@@ -7,8 +7,8 @@ ghost use Rattle.geo_poly.specs.Replace.{degree_bound, denominators, most_denomi
 ghost use Rattle.geo_poly.specs.Replace.{term_degree, term_weight, weight_of};
 ghost use Rattle.geo_poly.specs.Shared.{AreParts, IsIndexOf, told, told_powers};
 
-use crate::replacement::Piece;
 use crate::row_table::RowTable;
+use crate::rows::Piece;
 use crate::shared::{Indexed, Shared};
 use mono_store::MonoId;
 

@@ -9,13 +9,12 @@ ghost use Rattle.geo_poly.specs.Rings.{Grows, IsElement, IsElementFor, polynomia
 ghost use Rattle.geo_poly.specs.Variables.{var_cmp};
 
 use crate::interning::place_near;
-use crate::lists::Vars;
 use crate::moving::moved;
-use crate::polynomials::Poly;
+use crate::poly::Poly;
 use crate::products::product_list;
 use crate::shared::{Indexed, Shared};
 use crate::sums::{merged_lists, negated_list};
-use crate::variables::Var;
+use crate::variables::{Var, Vars};
 use geo_points::NoMemory;
 use mono_store::Monos;
 use std::alloc::Global;

@@ -3,14 +3,14 @@
 ghost use Rattle.std.specs.Prelude.{◌≡◌, ◌<◌, IfNone, IfOk, IfSome, List, None, Some, length};
 ghost use Rattle.std.specs.Prelude.{slice_get};
 ghost use Rattle.std.specs.List.Sorted.{IsStrictlySortedBy};
-ghost use Rattle.geo_poly.specs.declared.replacement.Row.{Row};
+ghost use Rattle.geo_poly.specs.declared.rows.Row.{Row};
 ghost use Rattle.geo_poly.specs.declared.variables.Var.{Var};
 ghost use Rattle.geo_poly.specs.Inner.Roles.{AreRoles, IsRole};
 ghost use Rattle.geo_poly.specs.Replace.{row_of};
 ghost use Rattle.geo_poly.specs.Variables.{var_cmp};
 
-use crate::moving::find_place;
 use crate::row_table::RowTable;
+use crate::variable_places::find_place;
 use crate::variables::Var;
 use geo_points::NoMemory;
 use std::alloc::Global;

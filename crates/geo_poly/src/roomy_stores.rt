@@ -6,11 +6,10 @@ ghost use Rattle.geo_poly.specs.Shared.{AreParts};
 ghost use Rattle.geo_poly.specs.Variables.{var_cmp};
 
 use crate::exponent_limits::{numbered_exponents, raise};
-use crate::lists::Vars;
-use crate::moving::guessed_place;
 use crate::shared::Shared;
 use crate::terms::Term;
-use crate::variables::Var;
+use crate::variable_places::guessed_place;
+use crate::variables::{Var, Vars};
 use geo_points::NoMemory;
 use mono_store::{Digits, MOST_WORDS, Monos};
 use std::alloc::Global;

@@ -6,7 +6,7 @@ ghost use Rattle.std.specs.Option.{option_and_then, option_copied};
 ghost use Rattle.geo_poly.specs.Replace.{row_of};
 ghost use Rattle.geo_poly.specs.Inner.RowTables.{AreFirstPlaces, IsKnown};
 
-use crate::replacement::Row;
+use crate::rows::Row;
 use crate::variables::Var;
 use geo_points::NoMemory;
 use std::alloc::Global;
@@ -63,7 +63,7 @@ impl<'a> Drop for RowTable<'a> {
 
 impl<'a> Model for RowTable<'a> {
     ghost use Rattle.std.specs.Prelude.{All, List, IfSome};
-    ghost use Rattle.geo_poly.specs.declared.replacement.Row.{Row};
+    ghost use Rattle.geo_poly.specs.declared.rows.Row.{Row};
     ghost use Rattle.geo_poly.specs.Inner.RowTables.{AreFirstPlaces, IsKnown};
 
     ghost Value = { List Row };

@@ -2,8 +2,8 @@
 
 ghost use Rattle.std.specs.Prelude.{◌≡◌};
 
-use crate::replacement::Piece;
 use crate::row_table::RowTable;
+use crate::rows::Piece;
 use crate::shared::Indexed;
 use crate::variables::Var;
 use std::marker::Model;

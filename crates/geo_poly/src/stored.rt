@@ -9,8 +9,8 @@ ghost use Rattle.geo_poly.specs.Shared.{IsIndex, IsShared, powers_at};
 ghost use Rattle.geo_poly.specs.Stored.{IsStoredBy, stored_terms};
 ghost use Rattle.geo_poly.specs.Variables.{var_cmp};
 
-use crate::lists::Vars;
 use crate::shared::Indexed;
+use crate::variables::Vars;
 use mono_store::{MonoId, Monos};
 
 /// How a polynomial is stored: its variables, the store of its monomials, and the index of each

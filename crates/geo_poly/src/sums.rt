@@ -12,14 +12,13 @@ ghost use Rattle.geo_poly.specs.Shared.{AreParts, IsIndex, terms_of, told};
 ghost use Rattle.geo_poly.specs.Variables.{var_cmp};
 
 use crate::limits::{MAX, PolyError, Which};
-use crate::lists::Vars;
 use crate::moving::moved;
+use crate::poly::Poly;
 use crate::polynomial_variables::{has_all, union};
-use crate::polynomials::Poly;
 use crate::roomy_stores::store_for_both;
 use crate::shared::{Indexed, Shared};
 use crate::terms::{Term, append_copies, copy_term};
-use crate::variables::Var;
+use crate::variables::{Var, Vars};
 use geo_points::NoMemory;
 use mono_store::Monos;
 use std::alloc::Global;

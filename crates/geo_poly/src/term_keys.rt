@@ -3,7 +3,7 @@
 ghost use Rattle.std.specs.Prelude.{◌≡◌, All, Contains, IfOk, IfSome, List};
 ghost use Rattle.std.specs.List.Sorted.{IsStrictlySortedBy};
 ghost use Rattle.sparse_lists.specs.SparseLists.{AllKeys};
-ghost use Rattle.geo_poly.specs.declared.replacement.Row.{Row};
+ghost use Rattle.geo_poly.specs.declared.rows.Row.{Row};
 ghost use Rattle.geo_poly.specs.declared.variables.Var.{Var};
 ghost use Rattle.geo_poly.specs.Inner.Keyed.{HasRoom, IsIndexUnder, KeepsKeys};
 ghost use Rattle.geo_poly.specs.Inner.Moved.{IsMovedKey};

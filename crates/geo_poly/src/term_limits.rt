@@ -4,8 +4,8 @@
 ghost use Rattle.std.specs.Prelude.{◌≡◌, ◌≢◌, ◌+◌, ◌-◌, ◌*◌, ◌^◌, ◌<◌, ◌≤◌, ◌∷◌, [], max, min};
 ghost use Rattle.std.specs.Prelude.{IfOk, List, Some, length, slice_get, slice_index_or, ℕ, ℤ};
 ghost use Rattle.std.specs.List.Sorted.{IsStrictlySortedBy};
-ghost use Rattle.geo_poly.specs.declared.replacement.Piece.{Piece};
-ghost use Rattle.geo_poly.specs.declared.replacement.Row.{Row};
+ghost use Rattle.geo_poly.specs.declared.rows.Piece.{Piece};
+ghost use Rattle.geo_poly.specs.declared.rows.Row.{Row};
 ghost use Rattle.geo_poly.specs.declared.variables.Var.{Var};
 ghost use Rattle.geo_poly.specs.Inner.Keyed.{greatest_exponent, greatest_of_rows};
 ghost use Rattle.geo_poly.specs.Inner.Limits.{AreLimits, AreLimitsOfRows, exponent_anywhere};
@@ -19,9 +19,9 @@ ghost use Rattle.geo_poly.specs.Shared.{AreParts, IsIndexOf, told, told_powers};
 ghost use Rattle.geo_poly.specs.Variables.{var_cmp};
 
 use crate::exponent_limits::{add_polynomial, no_limits};
-use crate::replacement::{Piece, Row};
 use crate::roles::{Role, role_at, roles_of};
 use crate::row_table::RowTable;
+use crate::rows::{Piece, Row};
 use crate::shared::Shared;
 use crate::variables::Var;
 use geo_points::NoMemory;

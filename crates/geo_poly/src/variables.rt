@@ -8,6 +8,7 @@ ghost use Rattle.std.specs.Ordering.{as_partial_cmp, eq_by_cmp};
 
 use geo_points::{ParamId, PointId};
 use std::cmp::Ordering;
+use std::marker::Model;
 
 /// A quantity of a figure, by the numbers of its points.
 ///
@@ -131,5 +132,30 @@ impl PartialOrd for Var {
 
     fn partial_cmp(&self, other: &Var) -> Option<Ordering> {
         Some(self.cmp(other))
+    }
+}
+
+/// Variables, in order.
+#[derive(Drop)]
+pub struct Vars {
+    /// The variables.
+    pub items: Vec<Var>,
+}
+
+impl Model for Vars {
+    ghost use Rattle.std.specs.Prelude.{List};
+    ghost use Rattle.geo_poly.specs.declared.variables.Var.{Var};
+
+    ghost Value = { List Var };
+
+    ghost view = { λ vars. vars.items.items };
+}
+
+impl Vars {
+    /// The variables.
+    pub fn as_slice(&self) -> &[Var]
+        ensures { result.now ≡ self.now }
+    {
+        self.items.as_slice()
     }
 }

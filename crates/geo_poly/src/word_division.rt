@@ -8,10 +8,10 @@ ghost use Rattle.geo_poly.specs.Monomials.{IsMonomial};
 ghost use Rattle.geo_poly.specs.Polynomials.{multiples};
 ghost use Rattle.geo_poly.specs.Shared.{AreParts, IsIndexOf, terms_of, told};
 
-use crate::division::exact_quotient;
-use crate::moving::find_place;
+use crate::exact_quotients::exact_quotient;
 use crate::polynomial_variables::unit_below;
 use crate::shared::{Indexed, Shared};
+use crate::variable_places::find_place;
 use crate::variables::Var;
 use geo_points::NoMemory;
 use mono_store::{Digits, MonoId};

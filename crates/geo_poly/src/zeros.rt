@@ -10,7 +10,7 @@ ghost use Rattle.geo_poly.specs.Specialise.{specialised};
 ghost use Rattle.geo_poly.specs.Variables.{var_cmp};
 
 use crate::numbering::number_in;
-use crate::polynomials::Poly;
+use crate::poly::Poly;
 use crate::shared::{Indexed, Shared};
 use crate::variables::Var;
 use mono_store::{MonoId, Monos};

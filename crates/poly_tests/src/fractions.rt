@@ -4,13 +4,15 @@
 ghost use Rattle.std.specs.Prelude.{◌<◌, ◌≤◌, IsTrue, length};
 ghost use Rattle.geo_terms.specs.Stores.{HasChildrenBelow, HasShortInteger};
 
+use crate::spelling::spelled;
 use fraction_poly::{
-    Draft, KnownNumbers, Number, Numbers, RowDraft, StepTerms, StoreNumbers, measure, multiply_out,
+    Draft, KnownNumbers, Number, Numbers, RowDraft, StepTerms, StoreNumbers, measure,
+    multiply_out_uncounted,
 };
 use geo_points::{NoMemory, ParamId, PointId, TermId};
 use geo_poly::{MAX, MAX_DEGREE, Poly, Var};
 use geo_terms::{Node, Terms};
-use std::alloc::{AllocError, Global};
+use std::alloc::Global;
 use std::test::Fail;
 
 /// Whether the node may be added to this many.
@@ -56,51 +58,9 @@ fn fraction_of(alloc: Global, terms: &Terms, id: TermId) -> Result<Option<(Poly,
     requires { id.0 < length terms.now }
 {
     if measure(alloc, terms, id)?.has_room() {
-        return Ok(Some(multiply_out(alloc, terms, id)?));
+        return Ok(Some(multiply_out_uncounted(alloc, terms, id)?));
     }
     Ok(None)
-}
-
-fn named(alloc: Global, v: Var) -> Result<String, AllocError> {
-    match v {
-        Var::R(a, b, c, d) => format!(in alloc; "R{}.{}.{}.{}", a.0, b.0, c.0, d.0),
-        Var::S(a, b, c) => format!(in alloc; "S{}.{}.{}", a.0, b.0, c.0),
-        Var::P(a, b, c) => format!(in alloc; "P{}.{}.{}", a.0, b.0, c.0),
-        Var::X(a) => format!(in alloc; "x{}", a.0),
-        Var::Y(a) => format!(in alloc; "y{}", a.0),
-        Var::T(t) => format!(in alloc; "t{}", t.0),
-    }
-}
-
-/// A term as `-3*t0*t1^2`.
-fn spelled_term(alloc: Global, poly: &Poly, i: u64) -> Result<String, AllocError>
-    requires { i < length poly.now }
-{
-    let mut text = format!(in alloc; "{:+}", poly.coefficient(i))?;
-    for j in 0..poly.powers(i) {
-        let (v, exponent) = poly.power(i, j);
-        text.push_str("*")?;
-        text.push_str(named(alloc, v)?.as_str())?;
-        if exponent > 1 {
-            text.push_str(format!(in alloc; "^{exponent}")?.as_str())?;
-        }
-    }
-    Ok(text)
-}
-
-/// The terms in order, and `0` where there is none.
-fn spelled(alloc: Global, poly: &Poly) -> Result<String, AllocError> {
-    if poly.is_zero() {
-        return String::from_str(alloc, "0");
-    }
-    let mut text = String::new(alloc);
-    for i in 0..poly.terms() {
-        if i > 0 {
-            text.push_str(" ")?;
-        }
-        text.push_str(spelled_term(alloc, poly, i)?.as_str())?;
-    }
-    Ok(text)
 }
 
 /// Whether the term has these numbers, and a numerator and a denominator that are spelled so.

@@ -17,4 +17,6 @@ mod runs;
 #[cfg(test)]
 mod samples;
 #[cfg(test)]
+mod spelling;
+#[cfg(test)]
 mod stores;

@@ -7,7 +7,7 @@ use geo_base::Budget;
 use geo_points::{ParamId, PointId};
 use geo_poly::lists::{Polys, Values, Vars};
 use geo_poly::{Poly, Var, Which};
-use geo_sample::{SampleError, least_sample, none_zero, values_hold};
+use geo_sample::{SampleError, least_sample_uncounted, none_zero, values_hold_uncounted};
 use std::alloc::Global;
 use std::test::Fail;
 
@@ -155,7 +155,7 @@ fn has_numbers(alloc: Global, polys: &Polys, vars: &[Var], numbers: &[i128]) -> 
         items: Vec::from_slice(alloc, vars)?,
     };
     let mut budget = Budget { left: 1000 };
-    match least_sample(alloc, polys, &vars, &mut budget) {
+    match least_sample_uncounted(alloc, polys, &vars, &mut budget) {
         Ok(values) => Ok(are_numbers(&values, numbers)),
         Err(_) => Ok(false),
     }
@@ -192,8 +192,8 @@ fn searched(
         items: vec![in alloc; T0]?,
     };
     let mut budget = Budget { left };
-    let found = least_sample(alloc, polys, &vars, &mut budget).map(|values| number(&values));
-    Ok((found, budget.left))
+    let found = least_sample_uncounted(alloc, polys, &vars, &mut budget);
+    Ok((found.map(|values| number(&values)), budget.left))
 }
 
 #[test]
@@ -229,7 +229,10 @@ fn values_are_tested(rt: HostRuntime) -> Result<(), Fail> {
             items: vec![in alloc; (T0, number)]?,
         };
         let mut budget = Budget { left: 5 };
-        assert_eq!(rt; values_hold(alloc, &polys, &values, &mut budget), answer);
+        assert_eq!(rt;
+            values_hold_uncounted(alloc, &polys, &values, &mut budget),
+            answer
+        );
         assert_eq!(rt; budget.left, 1);
     }
     Ok(())

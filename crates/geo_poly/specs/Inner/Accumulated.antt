@@ -1,7 +1,7 @@
 -- What a replacement makes when factor after factor is multiplied into what is made so far. For polynomials it is what `replaced_term`
 -- and `replaced_terms` say.
 use Rattle.std.specs.Prelude.{ℕ, zero, suc, ◌-◌, ℤ, Option, Some, None, List, [], ◌∷◌, ◌++◌}
-use Rattle.geo_poly.specs.declared.replacement.Row.{Row}
+use Rattle.geo_poly.specs.declared.rows.Row.{Row}
 use Rattle.geo_poly.specs.Monomials.{Powers}
 use Rattle.geo_poly.specs.Polynomials.{Summands, product_of}
 use Rattle.geo_poly.specs.Replace.{denominators, others, row_of}

@@ -5,7 +5,7 @@ use Rattle.mono_store.specs.Stores.{words}
 use Rattle.geo_poly.specs.declared.moving.Move.{Move}
 use Rattle.geo_poly.specs.declared.moving.Move.TheVariants.{Kept, Replaced, Unknown}
 use Rattle.geo_poly.specs.declared.moving.MovedMonomials.{MovedMonomials}
-use Rattle.geo_poly.specs.declared.replacement.Row.{Row}
+use Rattle.geo_poly.specs.declared.rows.Row.{Row}
 use Rattle.geo_poly.specs.declared.shared.Shared.{Shared}
 use Rattle.geo_poly.specs.declared.variables.Var.{Var}
 use Rattle.geo_poly.specs.Replace.{others, row_of}

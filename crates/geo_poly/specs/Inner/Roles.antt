@@ -1,6 +1,6 @@
 -- What becomes of the variables of a polynomial in a replacement.
 use Rattle.std.specs.Prelude.{◌≡◌, ℕ, ◌<◌, List, Some, None, length, slice_get, slice_index_or}
-use Rattle.geo_poly.specs.declared.replacement.Row.{Row}
+use Rattle.geo_poly.specs.declared.rows.Row.{Row}
 use Rattle.geo_poly.specs.declared.roles.Role.{Role}
 use Rattle.geo_poly.specs.declared.roles.Role.TheVariants.{Absent, Kept, Replaced}
 use Rattle.geo_poly.specs.declared.variables.Var.{Var}

@@ -1,6 +1,6 @@
 -- The factors of a term that is replaced: whether one is zero, and how many products of monomials their powers take.
 use Rattle.std.specs.Prelude.{◌≢◌, ℕ, zero, suc, ◌+◌, ◌*◌, ◌^◌, Option, Some, None, List, [], ◌∷◌}
-use Rattle.geo_poly.specs.declared.replacement.Row.{Row}
+use Rattle.geo_poly.specs.declared.rows.Row.{Row}
 use Rattle.geo_poly.specs.Monomials.{Powers}
 use Rattle.geo_poly.specs.Replace.{row_of}
 

@@ -2,7 +2,7 @@
 use Rattle.std.specs.Prelude.{ℕ, ◌+◌, All, IfSome, List}
 use Rattle.mono_store.specs.declared.links.MonoId.{MonoId}
 use Rattle.geo_poly.specs.declared.pending.Listed.{Listed}
-use Rattle.geo_poly.specs.declared.replacement.Row.{Row}
+use Rattle.geo_poly.specs.declared.rows.Row.{Row}
 use Rattle.geo_poly.specs.declared.settings.Setting.{Setting}
 use Rattle.geo_poly.specs.declared.shared.Shared.{Shared}
 use Rattle.geo_poly.specs.declared.term_keys.TermKeys.{TermKeys}

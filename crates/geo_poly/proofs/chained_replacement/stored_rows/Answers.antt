@@ -1,6 +1,6 @@
 use Rattle.std.proofs.Common.{◌++◌, ◌∷◌, [], List, take, sym, subst}
 use Rattle.std.specs.Prelude.{Contains}
-use Rattle.geo_poly.specs.declared.replacement.Row.{Row}
+use Rattle.geo_poly.specs.declared.rows.Row.{Row}
 use Rattle.geo_poly.specs.Inner.Settings.{AreStoredUnder}
 use Rattle.geo_poly.proofs.ChainSwaps.{AllNumerators-at, AreStoredUnder-kept, AreStoredUnder-push}
 use Rattle.geo_poly.proofs.InReach.{row_within}

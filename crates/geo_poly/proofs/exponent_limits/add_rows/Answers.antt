@@ -1,6 +1,6 @@
 use Rattle.std.proofs.Common.{ℕ, List, ◌+◌, ◌*◌, max, take, ap, arith, ◌∙◌}
 use Rattle.std.proofs.lemmas.List.{take_all}
-use Rattle.geo_poly.specs.declared.replacement.Row.{Row}
+use Rattle.geo_poly.specs.declared.rows.Row.{Row}
 use Rattle.geo_poly.specs.declared.variables.Var.{Var}
 use Rattle.geo_poly.specs.Inner.Keyed.{greatest_exponent}
 use Rattle.geo_poly.specs.Inner.Limits.{exponents_of_rows}

@@ -1,5 +1,5 @@
 use Rattle.std.proofs.Common.{List, ℕ, ◌*◌, ap, ap₂, arith}
-use Rattle.geo_poly.specs.declared.replacement.Row.{Row}
+use Rattle.geo_poly.specs.declared.rows.Row.{Row}
 use Rattle.geo_poly.specs.declared.variables.Var.{Var}
 use Rattle.geo_poly.specs.Inner.Keyed.{greatest_exponent}
 use Rattle.geo_poly.specs.Inner.Limits.{exponent_anywhere, exponents_of_rows}

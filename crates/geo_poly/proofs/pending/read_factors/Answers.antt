@@ -1,7 +1,7 @@
 use Rattle.std.proofs.Common.{◌≡◌, ℕ, ◌-◌, ◌*◌, ◌<◌, [], Option, Some, length, rules, sym, ap, subst, ◌∙◌, arith}
 use Rattle.std.specs.Prelude.{◌≢◌}
 use Rattle.std.proofs.lemmas.Bool.{false≢true}
-use Rattle.geo_poly.specs.declared.replacement.Row.{Row}
+use Rattle.geo_poly.specs.declared.rows.Row.{Row}
 use Rattle.geo_poly.specs.declared.variables.Var.{Var}
 use Rattle.geo_poly.specs.Monomials.{Powers}
 use Rattle.geo_poly.specs.Replace.{denominators, power_in, row_of}

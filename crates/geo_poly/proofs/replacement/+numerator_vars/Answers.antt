@@ -1,6 +1,6 @@
 use Rattle.std.proofs.Common.{ℕ, zero, suc, List, [], ◌∷◌, ◌/◌, length, take, drop, subst}
 use Rattle.std.specs.Prelude.{Contains}
-use Rattle.geo_poly.specs.declared.replacement.Row.{Row}
+use Rattle.geo_poly.specs.declared.rows.Row.{Row}
 use Rattle.geo_poly.specs.declared.variables.Var.{Var}
 use Rattle.geo_poly.specs.KeptVariables.{AllNumerators}
 use Rattle.geo_poly.proofs.ChainSwaps.{both_ok}

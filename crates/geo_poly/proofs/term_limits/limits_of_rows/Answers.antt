@@ -1,5 +1,5 @@
 use Rattle.std.proofs.Common.{List, ◌++◌, ◌∷◌, [], take, sym, ap, subst, arith}
-use Rattle.geo_poly.specs.declared.replacement.Row.{Row}
+use Rattle.geo_poly.specs.declared.rows.Row.{Row}
 use Rattle.geo_poly.specs.declared.term_limits.ExponentLimits.{ExponentLimits}
 use Rattle.geo_poly.specs.Inner.Keyed.{greatest_exponent}
 use Rattle.geo_poly.specs.Inner.Limits.{AreLimitsOfRows}

@@ -1,7 +1,7 @@
 use Rattle.std.proofs.Common.{◌≡◌, List, slice_get, ap, subst, ◌∙◌, rules}
 use Rattle.std.specs.Option.{option_and_then}
 use Rattle.std.proofs.lemmas.Option.{IfSome_then}
-use Rattle.geo_poly.specs.declared.replacement.Row.{Row}
+use Rattle.geo_poly.specs.declared.rows.Row.{Row}
 use Rattle.geo_poly.specs.Inner.RowTables.{IsKnown}
 use Rattle.geo_poly.specs.Replace.{row_of}
 use Rattle.geo_poly.proofs.row_table.RowTable.find_place.Goals as goal

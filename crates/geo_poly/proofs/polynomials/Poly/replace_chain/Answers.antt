@@ -1,9 +1,0 @@
-use Rattle.std.proofs.Common.{◌+◌, ◌≤◌, List, subst}
-use Rattle.geo_poly.specs.Counted.{replacement_products}
-use Rattle.geo_poly.specs.declared.replacement.Row.{Row}
-use Rattle.geo_poly.proofs.polynomials.Poly.replace_chain.Goals as goal
-
-pub returns-in_err-chained_replacement-clause-ticks : goal.returns-in_err-chained_replacement-clause-ticks
-returns-in_err-chained_replacement-clause-ticks g c =
-    subst (λ (rows : List Row). c.chained_replacement.new.ticks ≤ c.args.ticks.now + replacement_products rows c.args.den.now c.args.self.now) c.in_ok-table.ensures.rows
-    c.in_err-chained_replacement.ensures.ticks
