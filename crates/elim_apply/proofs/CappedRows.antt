@@ -6,8 +6,8 @@ use Rattle.std.specs.Ordering.{is_eq}
 use Rattle.std.proofs.Math.Nat.{pow-suc, pow-zero}
 use Rattle.std.proofs.lemmas.List.Sums.{sum_by-cons}
 use Rattle.fraction_poly.specs.Measures.{capped_number}
-use Rattle.geo_poly.specs.declared.replacement.Piece.{Piece}
-use Rattle.geo_poly.specs.declared.replacement.Row.{Row}
+use Rattle.geo_poly.specs.declared.rows.Piece.{Piece}
+use Rattle.geo_poly.specs.declared.rows.Row.{Row}
 use Rattle.geo_poly.specs.declared.variables.Var.{Var}
 use Rattle.geo_poly.specs.Monomials.{Powers, degree_of}
 use Rattle.geo_poly.specs.Polynomials.{Summands}

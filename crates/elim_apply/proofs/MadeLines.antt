@@ -4,7 +4,7 @@ use Rattle.std.specs.Prelude.{All}
 use Rattle.std.specs.List.{filter_map}
 use Rattle.fraction_poly.specs.Measures.{capped_number}
 use Rattle.fraction_poly.specs.TableRows.{HasPointsBelow}
-use Rattle.geo_poly.specs.declared.replacement.Row.{Row}
+use Rattle.geo_poly.specs.declared.rows.Row.{Row}
 use Rattle.geo_poly.specs.Polynomials.{Summands, IsPolynomial}
 use Rattle.geo_poly.specs.PolynomialVariables.{AllVariables, variables_of}
 use Rattle.geo_poly.specs.Replace.{replaced_degree, replaced_weight}

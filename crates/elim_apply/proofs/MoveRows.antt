@@ -14,7 +14,7 @@ use Rattle.geo_points.specs.declared.ids.TermId.{TermId}
 use Rattle.ring_laws.specs.Fraction.{IsNonzero, Same, times}
 use Rattle.geo_points.specs.Placements.{Placement}
 use Rattle.ring_laws.proofs.Fractions.{fractions}
-use Rattle.geo_poly.specs.declared.replacement.Row.{Row}
+use Rattle.geo_poly.specs.declared.rows.Row.{Row}
 use Rattle.geo_poly.specs.declared.variables.Var.{Var}
 use Rattle.geo_poly.specs.declared.variables.Var.TheVariants.{R, S, P, X, Y, T}
 use Rattle.geo_poly.specs.Values.{variable_value}

@@ -11,7 +11,7 @@ use Rattle.fraction_poly.specs.Measures.{capped_number}
 use Rattle.fraction_poly.specs.TableRows.{AreLight, HasPointsBelow, RowFits, TableRow, made_row, row_numbers}
 use Rattle.fraction_poly.proofs.PieceBounds.{bounded_form}
 use Rattle.fraction_poly.proofs.TableLemmas.{fits_of_numbers}
-use Rattle.geo_poly.specs.declared.replacement.Row.{Row}
+use Rattle.geo_poly.specs.declared.rows.Row.{Row}
 use Rattle.geo_poly.specs.declared.variables.Var.{Var}
 use Rattle.geo_poly.specs.declared.variables.Var.TheVariants.{R, S, P, X, Y, T}
 use Rattle.geo_poly.specs.Replace.{AllBounded, AllPowersSmall, IsBounded}

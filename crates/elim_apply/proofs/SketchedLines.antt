@@ -2,8 +2,8 @@
 use Rattle.std.proofs.Common.{◌≡◌, List, ap, ap₂, ◌∙◌}
 use Rattle.std.specs.List.{filter_map}
 use Rattle.fraction_poly.specs.Measures.{capped_number}
-use Rattle.geo_poly.specs.declared.replacement.Piece.{Piece}
-use Rattle.geo_poly.specs.declared.replacement.Row.{Row}
+use Rattle.geo_poly.specs.declared.rows.Piece.{Piece}
+use Rattle.geo_poly.specs.declared.rows.Row.{Row}
 use Rattle.geo_poly.specs.Polynomials.{Summands}
 use Rattle.geo_poly.specs.PolynomialVariables.{variables_of}
 use Rattle.geo_poly.specs.Replace.{most_denominators, replaced_degree, replaced_weight}

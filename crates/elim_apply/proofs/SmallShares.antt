@@ -1,7 +1,7 @@
 -- The share of a monomial, where it is reckoned in small numbers: they are the numbers themselves.
 use Rattle.std.proofs.Common.{◌≡◌, ℕ, ◌+◌, ◌*◌, ◌^◌, ◌-◌, ◌≤◌, Option, Some, None, List, [], ◌∷◌, refl, ap, ◌∙◌, arith}
 use Rattle.std.proofs.lemmas.List.Sums.{sum_by-cons}
-use Rattle.geo_poly.specs.declared.replacement.Row.{Row}
+use Rattle.geo_poly.specs.declared.rows.Row.{Row}
 use Rattle.geo_poly.specs.declared.variables.Var.{Var}
 use Rattle.geo_poly.specs.Counted.{count_row, count_rows, exponent_row, replaced_exponents}
 use Rattle.geo_poly.specs.Monomials.{Powers, degree_of}

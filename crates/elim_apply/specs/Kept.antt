@@ -3,7 +3,7 @@ use Rattle.std.specs.Prelude.{◌≡◌, Some, All, IfSome, IsSomeAnd, length}
 use Rattle.fraction_poly.specs.Inner.Drafts.{HasItsNumbers, row_of_draft}
 use Rattle.fraction_poly.specs.Inner.Known.{IsKnownOf}
 use Rattle.fraction_poly.specs.TableRows.{HasPointsBelow, RowFits, row_numbers}
-use Rattle.geo_poly.specs.declared.replacement.Row.{Row}
+use Rattle.geo_poly.specs.declared.rows.Row.{Row}
 use Rattle.geo_poly.specs.declared.variables.Var.{Var}
 use Rattle.geo_terms.specs.Constructions.{Construction}
 use Rattle.geo_logs.specs.declared.moves.Move.{Move}

@@ -26,4 +26,4 @@ pub use errors::ApplyError;
 pub use geo_logs::{Move, Replacement, RowList};
 pub use kept_rows::KnownRows;
 pub use replacing::replacement_of;
-pub use starting::start;
+pub use starting::{start, start_uncounted};

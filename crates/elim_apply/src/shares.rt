@@ -4,7 +4,7 @@ ghost use Rattle.std.specs.Prelude.{◌≡◌, [], IfOk, IfSome, List, Some, sli
 ghost use Rattle.elim_apply.specs.Inner.KeptShares.{AreKept};
 ghost use Rattle.elim_apply.specs.Inner.Shares.{AreShares, IsShareOf, IsWithPower};
 ghost use Rattle.elim_apply.specs.Inner.Sketches.{AreKnown, AreRising, sketches};
-ghost use Rattle.geo_poly.specs.declared.replacement.Row.{Row};
+ghost use Rattle.geo_poly.specs.declared.rows.Row.{Row};
 ghost use Rattle.geo_poly.specs.declared.variables.Var.{Var};
 ghost use Rattle.geo_poly.specs.Monomials.{IsMonomial, Powers};
 ghost use Rattle.geo_poly.specs.Replace.{AllPowersSmall, row_of};

@@ -8,7 +8,7 @@ ghost use Rattle.elim_apply.specs.Inner.Shares.{AreShares, HaveShares, IsShareOf
 ghost use Rattle.elim_apply.specs.Inner.Sketches.{AreRising, sketch, sketched_denominator};
 ghost use Rattle.elim_apply.specs.Inner.Sketches.{sketches};
 ghost use Rattle.elim_apply.specs.Inner.Sizes.{IsSizeOf};
-ghost use Rattle.geo_poly.specs.declared.replacement.Row.{Row};
+ghost use Rattle.geo_poly.specs.declared.rows.Row.{Row};
 ghost use Rattle.geo_poly.specs.Polynomials.{IsPolynomial, term_at};
 ghost use Rattle.geo_poly.specs.Replace.{AllPowersSmall, most_denominators};
 ghost use Rattle.geo_poly.specs.Replace.{replaced_degree, replaced_weight};

@@ -4,7 +4,7 @@ ghost use Rattle.std.specs.Prelude.{◌≡◌, IfSome, List, None, Some};
 ghost use Rattle.elim_apply.specs.Inner.KeptShares.{joined, known_row};
 ghost use Rattle.elim_apply.specs.Inner.Shares.{IsShareOf, no_power, with_power, with_powers};
 ghost use Rattle.elim_apply.specs.Inner.Sketches.{AreKnown, sketched};
-ghost use Rattle.geo_poly.specs.declared.replacement.Row.{Row};
+ghost use Rattle.geo_poly.specs.declared.rows.Row.{Row};
 ghost use Rattle.geo_poly.specs.Monomials.{Powers};
 ghost use Rattle.geo_poly.specs.Shared.{IsIndexOf, told_powers};
 

@@ -1,5 +1,5 @@
 -- Cutting the nodes that a term reaches out of a store, parts first.
-use Rattle.std.proofs.Common.{◌≡◌, ℕ, ◌+◌, ◌<◌, ◌≤◌, ◌⊎◌, inl, inr, Bool, true, false, cond, Contains, HashMap, List, [], ◌∷◌, ◌++◌, length}
+use Rattle.std.proofs.Common.{◌≡◌, ℕ, ◌+◌, ◌<◌, ◌≤◌, ◌⊎◌, inl, inr, Bool, true, false, cond, Contains, HashMap, List, [], ◌∷◌, ◌++◌, drop, length, suc, sum_by}
 use Rattle.std.proofs.Common.{slice_get, nat_eq, Some, Option, IsSome, unwrap_or, refl, sym, ap, ap₂, subst, ◌∙◌, arith}
 use Rattle.std.proofs.lemmas.Bool.{cases_lt}
 use Rattle.std.proofs.lemmas.Option.{slice_get_within}
@@ -10,8 +10,11 @@ use Rattle.geo_terms.specs.declared.nodes.Node.TheVariants.{Int, Param, S, P, R,
 use Rattle.geo_terms.specs.Stores.{Store, HasChildrenBelow, IsStore, node_tree, tree_at, trees_of, tree_of}
 use Rattle.geo_terms.specs.Trees.{Tree, negation, addition, subtraction, multiplication, division}
 use Rattle.geo_terms.proofs.Trees.{tree_of-node}
+use Rattle.fraction_poly.specs.Inner.Charges.{charge_below, own_charge, own_charge_at, range_sum}
 use Rattle.fraction_poly.specs.Inner.Parts.{AreReached, CanMultiplyOut, DoAllFit, IsPart, StandsFrom, over_parts, place_at, place_in}
+use Rattle.fraction_poly.proofs.OwnCharges.{sum_from}
 use Rattle.fraction_poly.proofs.Places.{place_cases, slice_get-end}
+use Rattle.fraction_poly.proofs.Ranges.{range_sum-le}
 
 -- A NODE OVER OTHER PARTS
 -- it has the same tree, where its parts have
@@ -75,6 +78,7 @@ pub record IsCut {S : Type 0} (nodes : Store) (id : TermId) (order : List TermId
   pub stands : (c : TermId) → IsSome (place_at places c) → (place_in places c).0 < length cut
   pub tree : (c : TermId) → IsSome (place_at places c) → tree_of cut (place_in places c) ≡ tree_of nodes c
   pub fit : CanMultiplyOut (tree_of nodes id) → DoAllFit cut
+  pub charges : charge_below cut (length cut) ≤ sum_by (λ c. own_charge_at nodes c.0) (drop k order)
 
 -- what `intern` says
 pub record IsInterned (old new : Store) (node : Node) (place : TermId) : Type 0 where
@@ -133,8 +137,31 @@ module _ {S : Type 0} (nodes : Store) (store : IsStore nodes) (id : TermId) (ord
       stands = stands;
       tree = tree;
       fit = λ fits. record { each = fit fits };
+      charges = charges;
     }
       where
+        before : range_sum (own_charge_at longer) (length cut) ≤ charge_below cut (length cut)
+        before =
+            range_sum-le (own_charge_at longer) (own_charge_at cut) (length cut)
+            (λ q lt. let same = ap own_charge (interned.others (record { 0 = q }) lt) in omega (arith, same))
+
+        charges : charge_below longer (length longer) ≤ sum_by (λ (c : TermId). own_charge_at nodes c.0) (drop i order)
+        charges =
+            let rest = sum_from (λ (c : TermId). own_charge_at nodes c.0) order i index here in
+            let same : k ≡ suc i = omega (arith, next) in
+            let h_charges = subst (λ (j : ℕ). charge_below cut (length cut) ≤ sum_by (λ (c : TermId). own_charge_at nodes c.0) (drop j order)) same h.charges in
+            elim (cases_lt (length cut) (length longer)) [
+              | inl grown ↦
+                  let one_more : length longer ≡ suc (length cut) = omega (arith, grown, interned.one_more) in
+                  let last = ap own_charge (ap (tree_of longer) (last_is (record { 0 = length cut }) grown refl) ∙ place_tree) in
+                  subst (λ (n : ℕ). charge_below longer n ≤ sum_by (λ (c : TermId). own_charge_at nodes c.0) (drop i order)) (sym one_more)
+                  (omega (arith, before, last, rest, h_charges))
+              | inr stays ↦
+                  let no_more : length longer ≡ length cut = omega (arith, stays, interned.longer) in
+                  subst (λ (n : ℕ). charge_below longer n ≤ sum_by (λ (c : TermId). own_charge_at nodes c.0) (drop i order)) (sym no_more)
+                  (omega (arith, before, rest, h_charges))
+            ]
+
         placed : (c : TermId) → StandsFrom i order c → IsSome (place_at more c)
         placed c from = elim (cases_lt i from.0) [
           | inl after ↦ place-stays index place places more updates c (h.placed c (from.0, omega arith, from.2))

@@ -1,14 +1,17 @@
 -- What is known at a node, when its parts are multiplied out.
-use Rattle.std.proofs.Common.{◌≡◌, ℤ, ◌^◌, ◌<◌, inl, inr, List, Some, length, slice_get, unsigned_abs, refl, sym, ap, ap₂, subst, ◌∙◌, arith}
+use Rattle.std.proofs.Common.{◌≡◌, ℕ, ℤ, ◌+◌, ◌*◌, ◌^◌, ◌<◌, ◌≤◌, inl, inr, List, Some, length, slice_get, unsigned_abs, refl, sym, ap, ap₂, subst, ◌∙◌, arith}
 use Rattle.std.proofs.lemmas.Option.{slice_get_within}
 use Rattle.geo_points.specs.declared.ids.TermId.{TermId}
 use Rattle.geo_poly.specs.Polynomials.{Summands, negated}
 use Rattle.geo_terms.specs.declared.nodes.Node.{Node}
 use Rattle.geo_terms.specs.declared.nodes.Node.TheVariants.{Int, Neg, Add, Sub, Mul, Div}
 use Rattle.geo_terms.specs.Stores.{Store, IsStore, node_tree, trees_of, tree_of}
+use Rattle.geo_terms.specs.Trees.{Tree}
 use Rattle.geo_terms.proofs.Trees.{tree_of-node}
 use Rattle.fraction_poly.specs.MultipliedOut.{multiplied_out, fraction_sum, fraction_difference, fraction_product, fraction_quotient}
+use Rattle.fraction_poly.specs.Inner.Charges.{own_charge}
 use Rattle.fraction_poly.specs.Inner.Parts.{CanMultiplyOut, SumFits, IsPart, HasParts}
+use Rattle.fraction_poly.proofs.OwnCharges.{product_products, quotient_products, sum_products}
 use Rattle.fraction_poly.proofs.Rooms.{ProductsFit, sum_fits_addition, sum_fits_subtraction, products_fit_multiplication, products_fit_division}
 
 -- the node stands at the index, may be multiplied out, and its parts are
@@ -24,6 +27,10 @@ module _ (nodes : Store) (parts : List (Summands × Summands)) (id : TermId) (no
 
   pub node_fits : CanMultiplyOut (node_tree (trees_of nodes) node)
   node_fits = subst CanMultiplyOut tree_is h.fits
+
+  -- what the node costs the index does
+  pub node_charge : (n : ℕ) → n ≤ own_charge (node_tree (trees_of nodes) node) → n ≤ own_charge (tree_of nodes id)
+  node_charge n le = subst (λ (e : Tree). n ≤ own_charge e) (sym tree_is) le
 
   -- what is made for the node is made for the index
   pub node_result : (f : Summands × Summands) → f ≡ multiplied_out (node_tree (trees_of nodes) node) → f ≡ multiplied_out (tree_of nodes id)
@@ -85,3 +92,23 @@ module _ (nodes : Store) (parts : List (Summands × Summands)) (id : TermId) whe
 
     pub division_is : IsAtNode nodes parts id (Div e f) → fraction_quotient x y ≡ multiplied_out (tree_of nodes id)
     division_is h = node_result nodes parts id (Div e f) h _ (ap₂ fraction_quotient (left_is (Div e f) h (inl refl)) (right_is (Div e f) h (inr refl)))
+
+    pub addition_charge : IsAtNode nodes parts id (Add e f) → length x.0 * length y.1 + length y.0 * length x.1 + length x.1 * length y.1 ≤ own_charge (tree_of nodes id)
+    addition_charge h =
+        node_charge nodes parts id (Add e f) h _
+        (sum_products (tree_of nodes e) (tree_of nodes f) x y (left_is (Add e f) h (inl refl)) (right_is (Add e f) h (inr refl)))
+
+    pub subtraction_charge : IsAtNode nodes parts id (Sub e f) → length x.0 * length y.1 + length y.0 * length x.1 + length x.1 * length y.1 ≤ own_charge (tree_of nodes id)
+    subtraction_charge h =
+        node_charge nodes parts id (Sub e f) h _
+        (sum_products (tree_of nodes e) (tree_of nodes f) x y (left_is (Sub e f) h (inl refl)) (right_is (Sub e f) h (inr refl)))
+
+    pub multiplication_charge : IsAtNode nodes parts id (Mul e f) → length x.0 * length y.0 + length x.1 * length y.1 ≤ own_charge (tree_of nodes id)
+    multiplication_charge h =
+        node_charge nodes parts id (Mul e f) h _
+        (product_products (tree_of nodes e) (tree_of nodes f) x y (left_is (Mul e f) h (inl refl)) (right_is (Mul e f) h (inr refl)))
+
+    pub division_charge : IsAtNode nodes parts id (Div e f) → length x.0 * length y.1 + length x.1 * length y.0 ≤ own_charge (tree_of nodes id)
+    division_charge h =
+        node_charge nodes parts id (Div e f) h _
+        (quotient_products (tree_of nodes e) (tree_of nodes f) x y (left_is (Div e f) h (inl refl)) (right_is (Div e f) h (inr refl)))

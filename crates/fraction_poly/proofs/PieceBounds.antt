@@ -17,7 +17,7 @@ use Rattle.fraction_poly.specs.Measures.{numbers_of, sum_numbers, product_number
 use Rattle.fraction_poly.proofs.Sizes.{IsWithin, IsWithin-sum, IsWithin-difference, IsWithin-product, IsWithin-negated, IsWithin-constant}
 use Rattle.fraction_poly.proofs.Sizes.{IsWithin-variable, IsWithin-area, IsWithin-pythagoras, IsWithin-ratio}
 use Rattle.fraction_poly.proofs.TermBounds.{bounds, positive}
-use Rattle.geo_poly.specs.declared.replacement.Piece.{Piece}
+use Rattle.geo_poly.specs.declared.rows.Piece.{Piece}
 use Rattle.geo_poly.specs.declared.variables.Var.TheVariants.{X, Y}
 use Rattle.geo_poly.specs.Polynomials.{Summands}
 use Rattle.geo_poly.specs.Replace.{IsBounded}

@@ -1,8 +1,10 @@
 -- Which indices a term reaches, from the greatest down.
 use Rattle.std.proofs.Common.{◌≡◌, ℕ, suc, ◌+◌, ◌<◌, ◌≤◌, ◌⊎◌, inl, inr, max, Bool, true, false, cond, ◌||◌, List, [], ◌∷◌, ◌++◌, length}
-use Rattle.std.proofs.Common.{slice_get, Some, BTreeSet, nat_cmp, is_eq, is_lt, Ordering, Less, Equal, Greater, refl, sym, ap, subst, ◌∙◌}
+use Rattle.std.proofs.Common.{eqb, slice_get, Some, sum_by, BTreeSet, nat_cmp, is_eq, is_lt, Ordering, Less, Equal, Greater, refl, sym, ap, subst, ◌∙◌}
 use Rattle.std.proofs.Common.{arith}
 use Rattle.std.proofs.lemmas.Bool.{cases_lt}
+use Rattle.std.proofs.lemmas.Bool.Decides.{nat_tests}
+use Rattle.std.proofs.lemmas.List.Sums.{sum_by_push}
 use Rattle.std.proofs.lemmas.Cmp.{ranked}
 use Rattle.std.proofs.lemmas.List.{length_push}
 use Rattle.std.proofs.lemmas.Map.Keys.{ge_from_not_lt}
@@ -15,9 +17,15 @@ use Rattle.geo_points.specs.declared.ids.TermId.{TermId}
 use Rattle.geo_terms.specs.declared.nodes.Node.{Node}
 use Rattle.geo_terms.specs.declared.nodes.Node.TheVariants.{Int, Param, S, P, R, Neg, Add, Sub, Mul, Div}
 use Rattle.geo_terms.specs.Stores.{Store, HasChildrenBelow, IsStore, tree_of}
+use Rattle.fraction_poly.specs.Inner.Charges.{own_charge, own_charge_at, range_sum}
+use Rattle.fraction_poly.specs.Measures.{numbers_of}
 use Rattle.fraction_poly.specs.Inner.Parts.{AreReached, CanMultiplyOut, IsPart, StandsFrom}
 use Rattle.fraction_poly.proofs.Places.{place_cases, slice_get-end, slice_get-front}
+use Rattle.fraction_poly.proofs.OwnCharges.{charge_at, part_at, parts_at, parts_sum, pending_at}
+use Rattle.fraction_poly.proofs.Ranges.{at_most, only_at, only_at-here, range_sum-at, range_sum-both, range_sum-le, range_sum-only}
 use Rattle.fraction_poly.proofs.Rooms.{part_fits}
+use Rattle.geo_terms.specs.Trees.{Tree}
+use Rattle.geo_terms.proofs.Trees.{tree_of-node}
 
 -- PARTS
 below_two : (e f c : TermId) (k : ℕ) → (e.0 < k) × (f.0 < k) → (c ≡ e) ⊎ (c ≡ f) → c.0 < k
@@ -155,6 +163,7 @@ pub record IsReaching (nodes : Store) (id : TermId) (pending : BTreeSet ℕ) (or
   pub stored : (c : TermId) → IsAhead pending 0 order c → c.0 < length nodes
   pub fit : CanMultiplyOut (tree_of nodes id) → (c : TermId) → IsAhead pending 0 order c → CanMultiplyOut (tree_of nodes c)
   pub few : length order + height pending.keys ≤ length nodes
+  pub charges : sum_by (λ c. own_charge_at nodes c.0) order + range_sum (pending_at nodes pending) (length nodes) ≤ charge_at nodes id.0
 
 module _ (nodes : Store) (store : IsStore nodes) (id : TermId) where
   -- only the term is pending
@@ -165,6 +174,12 @@ module _ (nodes : Store) (store : IsStore nodes) (id : TermId) where
     stored = λ c ahead. subst (λ (e : TermId). e.0 < length nodes) (only c ahead) within;
     fit = λ fits c ahead. subst (λ (e : TermId). CanMultiplyOut (tree_of nodes e)) (only c ahead) fits;
     few = omega (arith, height_least pending.keys (length nodes) (λ q has. let same = alone q has in omega arith));
+    charges =
+        omega (
+          arith,
+          range_sum-le (pending_at nodes pending) (only_at id.0 (charge_at nodes id.0)) (length nodes) (λ q lt. alone_at q (contains nat_cmp pending q) refl),
+          range_sum-only id.0 (charge_at nodes id.0) (length nodes),
+        );
   }
     where
       put : Puts id.0 none pending
@@ -178,6 +193,12 @@ module _ (nodes : Store) (store : IsStore nodes) (id : TermId) where
         | inl same ↦ sym same
         | inr old ↦ absurd (let absent : contains nat_cmp none q ≡ false = ap (list_any (is_at (nat_cmp q))) empty in cc)
       ]
+
+      alone_at : (q : ℕ) (b : Bool) → contains nat_cmp pending q ≡ b → pending_at nodes pending q ≤ only_at id.0 (charge_at nodes id.0) q
+      alone_at q true has =
+          subst (λ (k : ℕ). pending_at nodes pending k ≤ only_at id.0 (charge_at nodes id.0) k) (alone q has)
+          (omega (arith, at_most (contains nat_cmp pending id.0) (charge_at nodes id.0), only_at-here id.0 (charge_at nodes id.0)))
+      alone_at q false e = omega (arith, ap (λ b. cond b (charge_at nodes q) 0) e)
 
       only : (c : TermId) → IsAhead pending 0 [] c → id ≡ c
       only c (inl has) = λ i. record { 0 = alone c.0 has i }
@@ -229,6 +250,52 @@ module _ (nodes : Store) (store : IsStore nodes) (id : TermId) where
       | inr part ↦ part_below index.0 node (record { 0 = q }) node_below part
     ]
 
+    -- WHAT IT COSTS
+    taken_at : (q : ℕ) (b : Bool) → contains nat_cmp taken q ≡ b → pending_at nodes taken q + only_at index.0 (charge_at nodes index.0) q ≤ pending_at nodes old q
+    taken_at q true has =
+        let below : q < index.0 = takes.below q has in
+        let other : eqb q index.0 ≡ false = grind (arith, nat_tests, below) in
+        omega (
+          arith,
+          ap (λ b. cond b (charge_at nodes q) 0) has,
+          ap (λ b. cond b (charge_at nodes q) 0) (takes.kept q has),
+          ap (λ b. cond b (charge_at nodes index.0) 0) other,
+        )
+    taken_at q false e = go (eqb q index.0) refl
+      where
+        go : (b : Bool) → eqb q index.0 ≡ b → pending_at nodes taken q + only_at index.0 (charge_at nodes index.0) q ≤ pending_at nodes old q
+        go true here =
+            let same : index.0 ≡ q = grind (arith, nat_tests, here) in
+            let at_index : only_at index.0 (charge_at nodes index.0) q ≤ pending_at nodes old q =
+            subst (λ (k : ℕ). only_at index.0 (charge_at nodes index.0) k ≤ pending_at nodes old k) same
+            (omega (arith, at_most (eqb index.0 index.0) (charge_at nodes index.0), ap (λ b. cond b (charge_at nodes index.0) 0) takes.member)) in
+            omega (arith, at_index, ap (λ b. cond b (charge_at nodes q) 0) e)
+        go false other = omega (arith, ap (λ b. cond b (charge_at nodes q) 0) e, ap (λ b. cond b (charge_at nodes index.0) 0) other)
+
+    new_at : (q : ℕ) (b : Bool) → contains nat_cmp new q ≡ b → pending_at nodes new q ≤ pending_at nodes taken q + parts_at nodes node q
+    new_at q false e = omega (arith, ap (λ b. cond b (charge_at nodes q) 0) e)
+    new_at q true has = elim (put.others (record { 0 = q }) has) [
+      | inl before ↦ omega (arith, at_most (contains nat_cmp new q) (charge_at nodes q), ap (λ b. cond b (charge_at nodes q) 0) before)
+      | inr part ↦ omega (arith, at_most (contains nat_cmp new q) (charge_at nodes q), part_at nodes node (record { 0 = q }) part)
+    ]
+
+    cost : own_charge_at nodes index.0 + range_sum (pending_at nodes new) (length nodes) ≤ range_sum (pending_at nodes old) (length nodes)
+    cost =
+        let within : index.0 < length nodes = slice_get_within nodes index.0 node at in
+        let whole : range_sum (parts_at nodes node) (length nodes) + own_charge_at nodes index.0 ≤ charge_at nodes index.0 =
+        subst (λ (e : Tree). range_sum (parts_at nodes node) (length nodes) + own_charge e ≤ (numbers_of e).charge) (sym (tree_of-node nodes index node store at))
+        (parts_sum nodes node (length nodes)) in
+        omega (
+          arith,
+          whole,
+          range_sum-le (pending_at nodes new) (λ q. pending_at nodes taken q + parts_at nodes node q) (length nodes) (λ q lt. new_at q (contains nat_cmp new q) refl),
+          range_sum-both (pending_at nodes taken) (parts_at nodes node) (length nodes),
+          range_sum-le (λ q. pending_at nodes taken q + only_at index.0 (charge_at nodes index.0) q) (pending_at nodes old) (length nodes)
+              (λ q lt. taken_at q (contains nat_cmp taken q) refl),
+          range_sum-both (pending_at nodes taken) (only_at index.0 (charge_at nodes index.0)) (length nodes),
+          range_sum-at index.0 (charge_at nodes index.0) (length nodes) within,
+        )
+
     pub reaching-more : IsReaching nodes id new more
     reaching-more = record {
       own = ahead_more 0 id (omega arith) h.own;
@@ -242,6 +309,7 @@ module _ (nodes : Store) (store : IsStore nodes) (id : TermId) where
         | inr part ↦ part_fits nodes index node c store at (h.fit fits index (inl takes.member)) part
       ];
       few = omega (arith, length_push order index, height_above old.keys index.0 takes.member, height_least new.keys index.0 low);
+      charges = omega (arith, h.charges, cost, sum_by_push (λ (c : TermId). own_charge_at nodes c.0) order index);
     }
       where
         parts : (k : ℕ) (c d : TermId) (other : Node) → slice_get more k ≡ Some c → slice_get nodes c.0 ≡ Some other → IsPart other d → IsAhead new (k + 1) more d
@@ -274,6 +342,7 @@ module _ (nodes : Store) (store : IsStore nodes) (id : TermId) where
     stored = λ k c here. h.stored c (inr (k, omega arith, here));
     fit = λ fits k c here. h.fit fits c (inr (k, omega arith, here));
     few = omega (arith, h.few);
+    charges = omega (arith, h.charges);
   }
     where
       stands : (k : ℕ) (c : TermId) → IsAhead pending k order c → StandsFrom k order c

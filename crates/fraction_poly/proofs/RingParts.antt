@@ -6,7 +6,7 @@ use Rattle.fraction_poly.specs.declared.parts.Part.{Part}
 use Rattle.fraction_poly.specs.declared.step_numbers.StepNumber.{StepNumber}
 use Rattle.fraction_poly.specs.Inner.Drafts.{IsBoundedNumber, IsPartFor, drafted_piece, piece_in}
 use Rattle.fraction_poly.proofs.PieceBounds.{bounded_draft}
-use Rattle.geo_poly.specs.declared.replacement.Piece.{Piece}
+use Rattle.geo_poly.specs.declared.rows.Piece.{Piece}
 use Rattle.geo_poly.specs.Polynomials.{Summands}
 use Rattle.geo_poly.specs.Replace.{IsBounded}
 use Rattle.geo_poly.specs.Rings.{Grows, RingValue}

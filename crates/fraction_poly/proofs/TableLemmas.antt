@@ -8,8 +8,8 @@ use Rattle.fraction_poly.specs.TableRows.{AreLight, HasVariable, IsLight, IsPoin
 use Rattle.fraction_poly.proofs.PieceBounds.{bounded_form}
 use Rattle.geo_points.specs.declared.ids.PointId.{PointId}
 use Rattle.geo_points.specs.Placements.{Placement}
-use Rattle.geo_poly.specs.declared.replacement.Piece.{Piece}
-use Rattle.geo_poly.specs.declared.replacement.Row.{Row}
+use Rattle.geo_poly.specs.declared.rows.Piece.{Piece}
+use Rattle.geo_poly.specs.declared.rows.Row.{Row}
 use Rattle.geo_poly.specs.declared.variables.Var.{Var}
 use Rattle.geo_poly.specs.Replace.{IsBounded}
 use Rattle.geo_terms.specs.Constructions.{Construction}

@@ -1,6 +1,8 @@
 //! The part of a store that a term reaches.
 
-ghost use Rattle.std.specs.Prelude.{◌≡◌, ◌<◌, IfOk, IsSome, length};
+ghost use Rattle.std.specs.Prelude.{◌≡◌, ◌+◌, ◌<◌, ◌≤◌, IfOk, IsSome, length};
+ghost use Rattle.fraction_poly.specs.Measures.{numbers_of};
+ghost use Rattle.fraction_poly.specs.Inner.Charges.{charge_below};
 ghost use Rattle.fraction_poly.specs.Inner.Parts.{CanMultiplyOut, DoAllFit, IsPart, over_parts};
 ghost use Rattle.fraction_poly.specs.Inner.Parts.{place_at, place_in};
 ghost use Rattle.geo_points.specs.declared.ids.TermId.{TermId};
@@ -19,6 +21,8 @@ pub(crate) fn cut_out(alloc: Global, terms: &Terms, id: TermId) -> Result<(Terms
     ensures stored { IfOk result (λ cut. cut.1.0 < length cut.0) }
     ensures tree { IfOk result (λ cut. tree_of cut.0 cut.1 ≡ tree_of terms.now id) }
     ensures fit { IfOk result (λ cut. CanMultiplyOut (tree_of terms.now id) → DoAllFit cut.0) }
+    ensures charges { IfOk result (λ cut. charge_below cut.0 (cut.1.0 + 1)
+        ≤ (numbers_of (tree_of terms.now id)).charge) }
 {
     // From here on it is known that parts stand before their nodes.
     prove!(id.0 < terms.len());

@@ -4,7 +4,7 @@ ghost use Rattle.std.specs.Prelude.{◌≡◌, ◌≤◌, ◌+◌, ◌*◌, ◌^
 ghost use Rattle.fraction_poly.specs.Inner.Drafts.{AllFit, AllLeaves, IsBoundedNumber, IsPartFor};
 ghost use Rattle.fraction_poly.specs.Inner.Drafts.{by_number, combined_form, combined_piece};
 ghost use Rattle.fraction_poly.specs.Inner.Drafts.{drafted_piece, form_of, no_terms, piece_bounds};
-ghost use Rattle.geo_poly.specs.declared.replacement.Piece.{Piece};
+ghost use Rattle.geo_poly.specs.declared.rows.Piece.{Piece};
 ghost use Rattle.geo_poly.specs.Rings.{Grows};
 ghost use Rattle.fraction_poly.specs.declared.drafts.Number.{Number};
 ghost use Rattle.fraction_poly.specs.declared.drafts.Number.TheVariants.{First, Second};
@@ -14,7 +14,7 @@ ghost use Rattle.geo_terms.specs.Trees.{Tree};
 
 use crate::numbers::Numbers;
 use crate::operations::Operation;
-use crate::parts::{Part, combined, copied, integer, opposite, quantity, variable};
+use crate::parts::{Part, combined, copied_part, integer, opposite, quantity, variable};
 use crate::step_numbers::StepNumber;
 use geo_points::{NoMemory, PointId, TermId};
 use geo_poly::{Piece, Ring, Var, canon_p, canon_r, canon_s};
@@ -251,8 +251,8 @@ impl Draft {
             Draft::Ratio(a, b, c, d) => quantity(alloc, ring, canon_r(*a, *b, *c, *d)),
             Draft::Abscissa(a) => variable(alloc, ring, Var::X(*a)),
             Draft::Ordinate(a) => variable(alloc, ring, Var::Y(*a)),
-            Draft::Numerator(k) => copied(alloc, ring, &k.of(first, second).num),
-            Draft::Denominator(k) => copied(alloc, ring, &k.of(first, second).den),
+            Draft::Numerator(k) => copied_part(alloc, ring, &k.of(first, second).num),
+            Draft::Denominator(k) => copied_part(alloc, ring, &k.of(first, second).den),
             Draft::Combined(both) => {
                 let left = both.left.part(alloc, ring, first, second)?;
                 let right = both.right.part(alloc, ring, first, second)?;

@@ -31,7 +31,7 @@ pub use linear::{
     origin_weight, second_weight, step_draft, weights_numerator,
 };
 pub use measures::measure;
-pub use multiplying::multiply_out;
+pub use multiplying::{multiply_out, multiply_out_uncounted};
 pub use numbers::Numbers;
 pub use store_numbers::StoreNumbers;
 pub use table::{RowNumbers, Rows};

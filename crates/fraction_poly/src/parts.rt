@@ -84,7 +84,7 @@ pub(crate) fn canonical(alloc: Global, ring: &mut Ring, canon: Canon) -> Result<
 }
 
 /// The same piece.
-pub(crate) fn copied(alloc: Global, ring: &mut Ring, piece: &Piece) -> Result<Part, NoMemory>
+pub(crate) fn copied_part(alloc: Global, ring: &mut Ring, piece: &Piece) -> Result<Part, NoMemory>
     requires known { AllVariables (Contains ring.old.vars) piece.now.poly }
     ensures part { IfOk result (IsPartFor ring.new piece.now) }
     ensures grows { Grows ring.old ring.new }

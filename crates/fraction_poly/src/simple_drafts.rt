@@ -11,7 +11,7 @@ ghost use Rattle.geo_poly.specs.Polynomials.{constant_of, difference_of, product
 ghost use Rattle.geo_poly.specs.Replace.{IsBounded};
 
 use crate::drafts::Draft;
-use crate::fractions::{is_one, signed};
+use crate::fractions::{is_unit, signed_poly};
 use crate::operations::Operation;
 use crate::step_numbers::StepNumber;
 use geo_points::NoMemory;
@@ -91,7 +91,7 @@ fn small_number(poly: &Poly) -> Option<i128>
     if poly.is_zero() {
         return Some(0);
     }
-    if is_one(poly) {
+    if is_unit(poly) {
         return Some(1);
     }
     None
@@ -232,6 +232,6 @@ fn polynomial(alloc: Global, canon: Canon) -> Result<Poly, NoMemory>
 {
     match canon.var {
         None => Poly::constant(alloc, canon.sign),
-        Some(v) => signed(alloc, v, canon.sign < 0),
+        Some(v) => signed_poly(alloc, v, canon.sign < 0),
     }
 }

@@ -5,4 +5,5 @@ pub mod ValueLaws
 pub mod FoundSamples
 pub mod EveryEnd
 pub mod Changes
+pub mod CountedTries
 pub mod Puts

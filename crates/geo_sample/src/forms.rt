@@ -1,15 +1,17 @@
 //! The two forms of a polynomial into which numbers are put: a single term, or any other.
 
-ghost use Rattle.std.specs.Prelude.{pos, ◌≡◌, ◌≢◌, ◌↔◌, ◌^◌, ◌<◌, ◌≤◌, [], length, unsigned_abs};
+ghost use Rattle.std.specs.Prelude.{pos, ◌≡◌, ◌≢◌, ◌↔◌, ◌+◌, ◌^◌, ◌<◌, ◌≤◌, [], length, unsigned_abs};
 ghost use Rattle.std.specs.Prelude.{IfNone, IfOk, IfSome, IsTrue};
 ghost use Rattle.geo_poly.specs.Polynomials.{IsPolynomial};
 ghost use Rattle.geo_poly.specs.Specialise.{specialised, specialised_weight};
+ghost use Rattle.geo_sample.specs.Inner.Changes.{waits};
 ghost use Rattle.geo_sample.specs.Inner.Forms.{of_term, polynomial_in};
 
 use crate::single_terms::SingleTerm;
 use geo_points::NoMemory;
-use geo_poly::{Poly, Var};
+use geo_poly::{Poly, Ticks, Var};
 use std::alloc::Global;
+use std::sync::ledger::Ledger;
 
 /// A polynomial, by how many terms it had before any number was put in.
 #[derive(Drop)]
@@ -83,22 +85,32 @@ impl Form {
         }
     }
 
-    /// Puts 0 for the variable.
-    pub fn put_zero(&mut self, v: Var)
-        ensures { polynomial_in self.new ≡ specialised v (pos 0) (polynomial_in self.old) }
+    /// Puts 0 for the variable. Each monomial ticks.
+    pub fn put_zero<L: Ledger>(&mut self, v: Var, ticks: &mut Ticks<L>)
+        ensures put { polynomial_in self.new ≡ specialised v (pos 0) (polynomial_in self.old) }
+        ensures ticks { ticks.new ≡ ticks.old + length (polynomial_in self.old) }
     {
+        ticks.tick_each(self.terms());
         match self {
             Form::Term(term) => put_zero_in_term(term, v),
             Form::Sum(poly) => poly.put_zero(v),
         }
     }
 
-    /// Puts the number for the variable.
-    pub fn put_number(&mut self, alloc: Global, v: Var, number: i128) -> Result<(), NoMemory>
+    /// Puts the number for the variable. Each monomial ticks.
+    pub fn put_number<L: Ledger>(
+        &mut self,
+        alloc: Global,
+        v: Var,
+        number: i128,
+        ticks: &mut Ticks<L>,
+    ) -> Result<(), NoMemory>
         requires { specialised_weight v number (polynomial_in self.old) < 2 ^ 127 }
-        ensures { IfOk result
+        ensures put { IfOk result
             (λ _. polynomial_in self.new ≡ specialised v number (polynomial_in self.old)) }
+        ensures ticks { ticks.new ≡ ticks.old + length (polynomial_in self.old) }
     {
+        ticks.tick_each(self.terms());
         match self {
             Form::Term(term) => put_in_term(alloc, term, v, number),
             Form::Sum(poly) => put_in_sum(alloc, poly, v, number),
@@ -106,21 +118,30 @@ impl Form {
     }
 
     /// What it becomes with the number for the variable, or `None` where that is zero only if it is zero
-    /// now: a single term, or one that stays.
-    pub fn changed(&self, alloc: Global, v: Var, number: i128) -> Result<Option<Poly>, NoMemory>
+    /// now: a single term, or one that stays. Where it is made, each monomial ticks.
+    pub fn changed<L: Ledger>(
+        &self,
+        alloc: Global,
+        v: Var,
+        number: i128,
+        ticks: &mut Ticks<L>,
+    ) -> Result<Option<Poly>, NoMemory>
         requires number { unsigned_abs number ≢ 0 }
         requires weight { specialised_weight v number (polynomial_in self.now) < 2 ^ 127 }
         ensures some { IfOk result (λ change. IfSome change
             (λ p. p ≡ specialised v number (polynomial_in self.now))) }
         ensures none { IfOk result (λ change. IfNone change
             ((specialised v number (polynomial_in self.now) ≡ []) ↔ (polynomial_in self.now ≡ []))) }
+        ensures ticks { ticks.new ≤ ticks.old + length (polynomial_in self.now) }
+        ensures waits { IfOk result (λ change. ticks.new + waits change (polynomial_in self.now)
+            ≡ ticks.old + length (polynomial_in self.now)) }
     {
         match self {
             Form::Term(term) => {
                 prove!(term.is_valid());
                 Ok(None)
             }
-            Form::Sum(poly) => changed_sum(alloc, poly, v, number),
+            Form::Sum(poly) => changed_sum(alloc, poly, v, number, ticks),
         }
     }
 }
@@ -164,15 +185,25 @@ fn put_in_sum(alloc: Global, poly: &mut Poly, v: Var, number: i128) -> Result<()
 }
 
 /// What the polynomial becomes with the number for the variable, or `None` where it stays.
-fn changed_sum(alloc: Global, poly: &Poly, v: Var, number: i128) -> Result<Option<Poly>, NoMemory>
+fn changed_sum<L: Ledger>(
+    alloc: Global,
+    poly: &Poly,
+    v: Var,
+    number: i128,
+    ticks: &mut Ticks<L>,
+) -> Result<Option<Poly>, NoMemory>
     requires { specialised_weight v number poly.now < 2 ^ 127 }
     ensures some { IfOk result (λ change. IfSome change (λ p. p ≡ specialised v number poly.now)) }
     ensures none { IfOk result (λ change. IfNone change (specialised v number poly.now ≡ poly.now)) }
+    ensures ticks { ticks.new ≤ ticks.old + length poly.now }
+    ensures waits { IfOk result
+        (λ change. ticks.new + waits change poly.now ≡ ticks.old + length poly.now) }
 {
     prove!(poly.is_valid());
     if poly.degree_in(v) == 0 {
         return Ok(None);
     }
+    ticks.tick_each(poly.terms());
     let mut changed = poly.copy(alloc)?;
     changed.put_number(alloc, v, number)?;
     Ok(Some(changed))

@@ -1,7 +1,8 @@
 //! What polynomials become with a number other than 0.
 
-ghost use Rattle.std.specs.Prelude.{◌≡◌, ◌≢◌, ◌⊎◌, ◌↔◌, ◌^◌, ◌<◌, ◌≤◌, length, sum_by};
-ghost use Rattle.std.specs.Prelude.{true, false, unsigned_abs, All, Any, IfOk, IfErr, IsTrue};
+ghost use Rattle.std.specs.Prelude.{◌≡◌, ◌≢◌, ◌⊎◌, ◌↔◌, ◌+◌, ◌^◌, ◌<◌, ◌≤◌, length, sum_by};
+ghost use Rattle.std.specs.Prelude.{true, false, unsigned_abs, All, Any, IfOk, IfErr, IsErrOf};
+ghost use Rattle.std.specs.Prelude.{IsTrue};
 ghost use Rattle.geo_poly.specs.Specialise.{NoneZero, specialised_weight};
 ghost use Rattle.geo_sample.specs.Tries.{all_specialised};
 
@@ -11,17 +12,19 @@ use crate::putting::{nonzero_changes, put_changes};
 use crate::specialisations::Specialisation;
 use geo_base::Budget;
 use geo_points::NoMemory;
-use geo_poly::{Var, Which};
+use geo_poly::{Ticks, Var, Which};
 use std::alloc::Global;
+use std::sync::ledger::Ledger;
 
 /// Puts the number for the variable where none of the polynomials is zero then, and answers whether
 /// it did. The budget has the charge.
-pub fn keep_other(
+pub fn keep_other<L: Ledger>(
     alloc: Global,
     polys: &mut Vec<Specialisation>,
     v: Var,
     number: i128,
     budget: &Budget,
+    ticks: &mut Ticks<L>,
 ) -> Result<bool, SampleError>
     requires nonzero { NoneZero polys.old.items }
     requires number { unsigned_abs number ≢ 0 }
@@ -36,12 +39,15 @@ pub fn keep_other(
     ensures stopped { IfErr result (λ e. (e ≡ SampleError.NoMemory)
         ⊎ ((e ≡ SampleError.TooLarge Which.Norm)
         × Any (λ p. 2 ^ 127 ≤ specialised_weight v number p) polys.old.items)) }
+    ensures ticks { ticks.new ≤ ticks.old + sum_by length polys.old.items }
+    ensures unworked { (e : SampleError) → IsErrOf result e → e ≢ SampleError.NoMemory
+        → ticks.new ≡ ticks.old }
 {
     let _ = budget;
     test_weights(polys, v, number)?;
-    match nonzero_changes(alloc, polys, v, number)? {
+    match nonzero_changes(alloc, polys, v, number, ticks)? {
         Some(changes) => {
-            put_changes(alloc, polys, changes, v, number)?;
+            put_changes(alloc, polys, changes, v, number, ticks)?;
             Ok(true)
         }
         None => Ok(false),
@@ -49,12 +55,13 @@ pub fn keep_other(
 }
 
 /// Puts the number for the variable. The budget has the charge.
-pub fn put_other(
+pub fn put_other<L: Ledger>(
     alloc: Global,
     polys: &mut Vec<Specialisation>,
     v: Var,
     number: i128,
     budget: &Budget,
+    ticks: &mut Ticks<L>,
 ) -> Result<(), SampleError>
     requires paid { sum_by length polys.old.items ≤ budget.now.left }
     ensures put { IfOk result (λ u. polys.new.items ≡ all_specialised v number polys.old.items) }
@@ -63,10 +70,13 @@ pub fn put_other(
     ensures stopped { IfErr result (λ e. (e ≡ SampleError.NoMemory)
         ⊎ ((e ≡ SampleError.TooLarge Which.Norm)
         × Any (λ p. 2 ^ 127 ≤ specialised_weight v number p) polys.old.items)) }
+    ensures ticks { ticks.new ≤ ticks.old + sum_by length polys.old.items }
+    ensures unworked { (e : SampleError) → IsErrOf result e → e ≢ SampleError.NoMemory
+        → ticks.new ≡ ticks.old }
 {
     let _ = budget;
     test_weights(polys, v, number)?;
-    put_each(alloc, polys, v, number)?;
+    put_each(alloc, polys, v, number, ticks)?;
     Ok(())
 }
 
@@ -89,17 +99,19 @@ fn test_weights(polys: &[Specialisation], v: Var, number: i128) -> Result<(), Sa
 }
 
 /// Puts the number for the variable of each.
-fn put_each(
+fn put_each<L: Ledger>(
     alloc: Global,
     polys: &mut Vec<Specialisation>,
     v: Var,
     number: i128,
+    ticks: &mut Ticks<L>,
 ) -> Result<(), NoMemory>
     requires { All (λ p. specialised_weight v number p < 2 ^ 127) polys.old.items }
-    ensures { IfOk result (λ u. polys.new.items ≡ all_specialised v number polys.old.items) }
+    ensures put { IfOk result (λ u. polys.new.items ≡ all_specialised v number polys.old.items) }
+    ensures ticks { ticks.new ≤ ticks.old + sum_by length polys.old.items }
 {
     for place in 0..polys.len() {
-        polys[place].put_number(alloc, v, number)?;
+        polys[place].put_number(alloc, v, number, ticks)?;
     }
     Ok(())
 }

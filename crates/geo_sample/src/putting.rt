@@ -1,25 +1,27 @@
 //! A number other than 0 put into polynomials: what becomes of those of several terms is made once, to see that
 //! none is zero, and to be put in. A single term stays other than zero, and takes the number in place.
 
-ghost use Rattle.std.specs.Prelude.{◌≡◌, ◌≢◌, ◌↔◌, ◌^◌, ◌<◌, [], length, unsigned_abs, unwrap_or, All};
-ghost use Rattle.std.specs.Prelude.{IfNone, IfOk, IfSome, IsTrue};
+ghost use Rattle.std.specs.Prelude.{◌≡◌, ◌≢◌, ◌↔◌, ◌+◌, ◌^◌, ◌<◌, ◌≤◌, [], length, sum_by, unsigned_abs};
+ghost use Rattle.std.specs.Prelude.{unwrap_or, All, IfNone, IfOk, IfSome, IsTrue};
 ghost use Rattle.geo_poly.specs.Specialise.{NoneZero, specialised, specialised_weight};
-ghost use Rattle.geo_sample.specs.Inner.Changes.{changed_by};
+ghost use Rattle.geo_sample.specs.Inner.Changes.{changed_by, waiting, waits};
 ghost use Rattle.geo_sample.specs.Tries.{all_specialised};
 
 use crate::lists::are_specialisations;
 use crate::specialisations::Specialisation;
 use geo_points::NoMemory;
-use geo_poly::{Poly, Var};
+use geo_poly::{Poly, Ticks, Var};
 use std::alloc::Global;
+use std::sync::ledger::Ledger;
 
 /// What each polynomial becomes with the number for the variable, or `None` where the number is put into it later,
 /// which does not make it zero; no list where one is zero then.
-pub fn nonzero_changes(
+pub fn nonzero_changes<L: Ledger>(
     alloc: Global,
     polys: &[Specialisation],
     v: Var,
     number: i128,
+    ticks: &mut Ticks<L>,
 ) -> Result<Option<Vec<Option<Poly>>>, NoMemory>
     requires number { unsigned_abs number ≢ 0 }
     requires weight { All (λ p. specialised_weight v number p < 2 ^ 127) polys.now }
@@ -31,11 +33,14 @@ pub fn nonzero_changes(
         (λ o. IfSome o (λ _. NoneZero (all_specialised v number polys.now))) }
     ensures none { IfOk result
         (λ o. IfNone o (NoneZero (all_specialised v number polys.now) → ⊥)) }
+    ensures ticks { ticks.new ≤ ticks.old + sum_by length polys.now }
+    ensures waits { IfOk result (λ o. IfSome o (λ changes.
+        ticks.new + waiting changes.items polys.now ≡ ticks.old + sum_by length polys.now)) }
 {
     prove!(are_specialisations(polys));
     let mut changes = Vec::with_capacity(alloc, polys.len())?;
     for poly in polys {
-        let change = poly.changed(alloc, v, number)?;
+        let change = poly.changed(alloc, v, number, ticks)?;
         if is_zero_after(poly, &change) {
             return Ok(None);
         }
@@ -56,41 +61,45 @@ fn is_zero_after(poly: &Specialisation, change: &Option<Poly>) -> bool
 }
 
 /// Puts in what the polynomials become, and the number for the variable of the others.
-pub fn put_changes(
+pub fn put_changes<L: Ledger>(
     alloc: Global,
     polys: &mut Vec<Specialisation>,
     mut changes: Vec<Option<Poly>>,
     v: Var,
     number: i128,
+    ticks: &mut Ticks<L>,
 ) -> Result<(), NoMemory>
     requires whole { length changes.items ≡ length polys.old.items }
     requires weight { All (λ p. specialised_weight v number p < 2 ^ 127) polys.old.items }
-    ensures { IfOk result
+    ensures put { IfOk result
         (λ _. polys.new.items ≡ changed_by v number changes.items polys.old.items) }
+    ensures ticks { ticks.new ≤ ticks.old + waiting changes.items polys.old.items }
 {
     for place in 0..polys.len() {
         let change = changes[place].take();
-        put_change(alloc, &mut polys[place], change, v, number)?;
+        put_change(alloc, &mut polys[place], change, v, number, ticks)?;
     }
     Ok(())
 }
 
 /// Puts in what the polynomial becomes, or the number for the variable.
-fn put_change(
+fn put_change<L: Ledger>(
     alloc: Global,
     poly: &mut Specialisation,
     change: Option<Poly>,
     v: Var,
     number: i128,
+    ticks: &mut Ticks<L>,
 ) -> Result<(), NoMemory>
     requires { specialised_weight v number poly.old < 2 ^ 127 }
-    ensures { IfOk result (λ _. poly.new ≡ unwrap_or change (specialised v number poly.old)) }
+    ensures put { IfOk result (λ _. poly.new ≡ unwrap_or change (specialised v number poly.old)) }
+    ensures ticks { ticks.new ≡ ticks.old + waits change poly.old }
 {
     match change {
         Some(changed) => {
             *poly = Specialisation::sum(changed);
             Ok(())
         }
-        None => poly.put_number(alloc, v, number),
+        None => poly.put_number(alloc, v, number, ticks),
     }
 }

@@ -1,15 +1,17 @@
 //! Polynomials into which numbers are put for variables, one after another.
 
-ghost use Rattle.std.specs.Prelude.{pos, ◌≡◌, ◌≢◌, ◌↔◌, ◌^◌, ◌<◌, ◌≤◌, [], length, unsigned_abs};
+ghost use Rattle.std.specs.Prelude.{pos, ◌≡◌, ◌≢◌, ◌↔◌, ◌+◌, ◌^◌, ◌<◌, ◌≤◌, [], length, unsigned_abs};
 ghost use Rattle.std.specs.Prelude.{IfNone, IfOk, IfSome, IsTrue};
 ghost use Rattle.geo_poly.specs.Polynomials.{IsPolynomial};
 ghost use Rattle.geo_poly.specs.Specialise.{specialised, specialised_weight};
+ghost use Rattle.geo_sample.specs.Inner.Changes.{waits};
 
 use crate::forms::Form;
 use geo_points::NoMemory;
-use geo_poly::{Poly, Var};
+use geo_poly::{Poly, Ticks, Var};
 use std::alloc::Global;
 use std::marker::Model;
+use std::sync::ledger::Ledger;
 
 /// A polynomial with numbers put for some of its variables.
 #[derive(Drop)]
@@ -80,31 +82,48 @@ impl Specialisation {
         self.form.is_too_heavy(v, number)
     }
 
-    /// Puts 0 for the variable.
-    pub fn put_zero(&mut self, v: Var)
-        ensures { self.new ≡ specialised v (pos 0) self.old }
+    /// Puts 0 for the variable. Each monomial ticks.
+    pub fn put_zero<L: Ledger>(&mut self, v: Var, ticks: &mut Ticks<L>)
+        ensures put { self.new ≡ specialised v (pos 0) self.old }
+        ensures ticks { ticks.new ≡ ticks.old + length self.old }
     {
-        self.form.put_zero(v);
+        self.form.put_zero(v, ticks);
     }
 
-    /// Puts the number for the variable.
-    pub fn put_number(&mut self, alloc: Global, v: Var, number: i128) -> Result<(), NoMemory>
+    /// Puts the number for the variable. Each monomial ticks.
+    pub fn put_number<L: Ledger>(
+        &mut self,
+        alloc: Global,
+        v: Var,
+        number: i128,
+        ticks: &mut Ticks<L>,
+    ) -> Result<(), NoMemory>
         requires { specialised_weight v number self.old < 2 ^ 127 }
-        ensures { IfOk result (λ _. self.new ≡ specialised v number self.old) }
+        ensures put { IfOk result (λ _. self.new ≡ specialised v number self.old) }
+        ensures ticks { ticks.new ≡ ticks.old + length self.old }
     {
-        self.form.put_number(alloc, v, number)
+        self.form.put_number(alloc, v, number, ticks)
     }
 
     /// What the polynomial becomes with the number for the variable, or `None` where that is zero only if
-    /// the polynomial is: a single term, or one that stays.
-    pub fn changed(&self, alloc: Global, v: Var, number: i128) -> Result<Option<Poly>, NoMemory>
+    /// the polynomial is: a single term, or one that stays. Where it is made, each monomial ticks.
+    pub fn changed<L: Ledger>(
+        &self,
+        alloc: Global,
+        v: Var,
+        number: i128,
+        ticks: &mut Ticks<L>,
+    ) -> Result<Option<Poly>, NoMemory>
         requires number { unsigned_abs number ≢ 0 }
         requires weight { specialised_weight v number self.now < 2 ^ 127 }
         ensures some { IfOk result
             (λ change. IfSome change (λ p. p ≡ specialised v number self.now)) }
         ensures none { IfOk result (λ change. IfNone change
             ((specialised v number self.now ≡ []) ↔ (self.now ≡ []))) }
+        ensures ticks { ticks.new ≤ ticks.old + length self.now }
+        ensures waits { IfOk result
+            (λ change. ticks.new + waits change self.now ≡ ticks.old + length self.now) }
     {
-        self.form.changed(alloc, v, number)
+        self.form.changed(alloc, v, number, ticks)
     }
 }

@@ -1,7 +1,7 @@
 -- What becomes of the monomials of a line, before anything is multiplied out.
 use Rattle.std.specs.Prelude.{◌≡◌, ℕ, ◌+◌, ◌-◌, ◌*◌, ◌^◌, min, List, [], ◌∷◌, Option, None, Some, length, slice_get}
 use Rattle.fraction_poly.specs.Measures.{capped_number}
-use Rattle.geo_poly.specs.declared.replacement.Row.{Row}
+use Rattle.geo_poly.specs.declared.rows.Row.{Row}
 use Rattle.geo_poly.specs.declared.shared.Shared.{Shared}
 use Rattle.geo_poly.specs.Counted.{count_rows, replaced_exponents}
 use Rattle.geo_poly.specs.Monomials.{Powers, degree_of}

@@ -4,8 +4,8 @@ use Rattle.std.specs.List.Sorted.{IsStrictlySortedBy}
 use Rattle.std.specs.Option.{option_map}
 use Rattle.fraction_poly.specs.declared.table.RowNumbers.{RowNumbers}
 use Rattle.fraction_poly.specs.TableRows.{row_numbers}
-use Rattle.geo_poly.specs.declared.replacement.Piece.{Piece}
-use Rattle.geo_poly.specs.declared.replacement.Row.{Row}
+use Rattle.geo_poly.specs.declared.rows.Piece.{Piece}
+use Rattle.geo_poly.specs.declared.rows.Row.{Row}
 use Rattle.geo_poly.specs.Replace.{row_of}
 use Rattle.geo_poly.specs.Variables.{var_cmp}
 use Rattle.geo_poly.specs.declared.variables.Var.{Var}

@@ -22,7 +22,7 @@ use Rattle.fraction_poly.specs.TableRows.{RowFits, TableRow}
 use Rattle.geo_points.specs.declared.ids.PointId.{PointId}
 use Rattle.geo_points.specs.declared.ids.TermId.{TermId}
 use Rattle.geo_poly.specs.declared.canonical.Canon.{Canon}
-use Rattle.geo_poly.specs.declared.replacement.Piece.{Piece}
+use Rattle.geo_poly.specs.declared.rows.Piece.{Piece}
 use Rattle.geo_poly.specs.declared.variables.Var.{Var}
 use Rattle.geo_poly.specs.declared.variables.Var.TheVariants.{X, Y}
 use Rattle.geo_poly.specs.Canonical.{canonical_area, canonical_difference, canonical_ratio}

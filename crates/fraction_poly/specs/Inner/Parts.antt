@@ -1,5 +1,5 @@
 -- What the code knows, while it works on a node, of the nodes before it.
-use Rattle.std.specs.Prelude.{◌≡◌, ℕ, ◌+◌, ◌*◌, ◌^◌, ◌<◌, ◌≤◌, ◌⊎◌, List, Option, Some, length, nat_eq, slice_get}
+use Rattle.std.specs.Prelude.{◌≡◌, ℕ, ◌+◌, ◌*◌, ◌^◌, ◌<◌, ◌≤◌, ◌⊎◌, List, Option, Some, length, nat_eq, slice_get, sum_by}
 use Rattle.std.specs.HashMap.{HashMap, get}
 use Rattle.std.specs.Option.{unwrap_or}
 use Rattle.geo_points.specs.declared.ids.TermId.{TermId}
@@ -11,6 +11,7 @@ use Rattle.geo_terms.specs.Trees.{Tree}
 use Rattle.fraction_poly.specs.declared.numbers.Numbers.{Numbers}
 use Rattle.fraction_poly.specs.Measures.{HasRoom, capped, numbers_of}
 use Rattle.fraction_poly.specs.MultipliedOut.{multiplied_out}
+use Rattle.fraction_poly.specs.Inner.Charges.{own_charge_at}
 
 -- NUMBERS
 -- the list has the numbers of the first trees
@@ -71,7 +72,7 @@ abbrev pub StandsFrom : ℕ → List TermId → TermId → Type 0
 StandsFrom k order c = (j : ℕ) × (k ≤ j) × (slice_get order j ≡ Some c)
 
 -- the list has the term's index, and after each of its indices those of the parts of the node there; they are no more than the nodes,
--- and all may be multiplied out where the term may
+-- all may be multiplied out where the term may, and what they cost is within the term's charge
 pub record AreReached (nodes : Store) (id : TermId) (order : List TermId) : Type 0 where
   pub own : StandsFrom 0 order id
   pub parts : (k : ℕ) (c d : TermId) (node : Node) → slice_get order k ≡ Some c → slice_get nodes c.0 ≡ Some node
@@ -79,6 +80,7 @@ pub record AreReached (nodes : Store) (id : TermId) (order : List TermId) : Type
   pub stored : (k : ℕ) (c : TermId) → slice_get order k ≡ Some c → c.0 < length nodes
   pub fit : CanMultiplyOut (tree_of nodes id) → (k : ℕ) (c : TermId) → slice_get order k ≡ Some c → CanMultiplyOut (tree_of nodes c)
   pub few : length order ≤ length nodes
+  pub charges : sum_by (λ c. own_charge_at nodes c.0) order ≤ (numbers_of (tree_of nodes id)).charge
 
 -- MOVED
 -- where the map says that the index stands

@@ -1,7 +1,7 @@
 -- Drafts that are a sign times a variable, or a number that is a sign.
 use Rattle.std.specs.Prelude.{◌≡◌}
 use Rattle.geo_poly.specs.declared.canonical.Canon.{Canon}
-use Rattle.geo_poly.specs.declared.replacement.Piece.{Piece}
+use Rattle.geo_poly.specs.declared.rows.Piece.{Piece}
 use Rattle.geo_poly.specs.Polynomials.{Summands}
 use Rattle.fraction_poly.specs.declared.simple_drafts.Simple.{Simple}
 use Rattle.fraction_poly.specs.Inner.Drafts.{HasSign}

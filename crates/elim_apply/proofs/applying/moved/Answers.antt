@@ -1,7 +1,7 @@
 use Rattle.std.proofs.Common.{◌≡◌, ◌∙◌, List, Some, map, ap, ap₂, subst, sym, arith, rules}
 use Rattle.geo_poly.specs.Counted.{replacement_products}
-use Rattle.geo_poly.specs.declared.replacement.Piece.{Piece}
-use Rattle.geo_poly.specs.declared.replacement.Row.{Row}
+use Rattle.geo_poly.specs.declared.rows.Piece.{Piece}
+use Rattle.geo_poly.specs.declared.rows.Row.{Row}
 use Rattle.geo_poly.specs.PolynomialVariables.{variables_of}
 use Rattle.geo_poly.specs.Replace.{AllBounded, IsBounded, most_denominators, replaced_by, replaced_degree, replaced_weight}
 use Rattle.elim_apply.specs.LemmaTable.{lemma_table}

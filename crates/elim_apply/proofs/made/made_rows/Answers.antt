@@ -1,5 +1,5 @@
 use Rattle.std.proofs.Common.{Option, Some, map, refl}
-use Rattle.geo_poly.specs.declared.replacement.Row.{Row}
+use Rattle.geo_poly.specs.declared.rows.Row.{Row}
 use Rattle.geo_poly.specs.declared.variables.Var.TheVariants.{R}
 use Rattle.elim_apply.specs.declared.numbered.NumberedRow.{NumberedRow}
 use Rattle.elim_apply.specs.LemmaTable.{lemma_table}

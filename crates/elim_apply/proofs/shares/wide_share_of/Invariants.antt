@@ -1,5 +1,5 @@
 use Rattle.std.proofs.Common.{List}
-use Rattle.geo_poly.specs.declared.replacement.Row.{Row}
+use Rattle.geo_poly.specs.declared.rows.Row.{Row}
 use Rattle.geo_poly.specs.Replace.{AllPowersSmall}
 use Rattle.geo_poly.specs.Shared.{IsIndexOf, told_powers}
 use Rattle.elim_apply.specs.Inner.Sketches.{AreKnown}

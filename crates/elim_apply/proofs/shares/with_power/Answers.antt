@@ -2,7 +2,7 @@ use Rattle.std.proofs.Common.{Option, length, refl, sym, ap, subst, ◌∙◌, a
 use Rattle.std.specs.Option.{option_map}
 use Rattle.std.proofs.lemmas.Bool.{ltb-false, ltb-true}
 use Rattle.std.proofs.lemmas.Option.{get_or_from_slice_get, slice_get_read, slice_get_within}
-use Rattle.geo_poly.specs.declared.replacement.Row.{Row}
+use Rattle.geo_poly.specs.declared.rows.Row.{Row}
 use Rattle.geo_poly.specs.Replace.{row_of}
 use Rattle.elim_apply.specs.Inner.Shares.{IsWithPower}
 use Rattle.elim_apply.specs.Inner.Sketches.{sketched}

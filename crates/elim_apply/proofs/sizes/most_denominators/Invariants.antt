@@ -1,5 +1,5 @@
 use Rattle.std.proofs.Common.{◌≡◌, List, max, drop}
-use Rattle.geo_poly.specs.declared.replacement.Row.{Row}
+use Rattle.geo_poly.specs.declared.rows.Row.{Row}
 use Rattle.geo_poly.specs.Replace.{most_denominators}
 use Rattle.geo_poly.specs.Shared.{told}
 use Rattle.elim_apply.specs.Inner.Shares.{AreShares}

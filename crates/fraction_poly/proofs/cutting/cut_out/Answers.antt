@@ -1,7 +1,11 @@
-use Rattle.std.proofs.Common.{◌≡◌, ◌-◌, Some, length, slice_get, refl, sym, subst, arith}
+use Rattle.std.proofs.Common.{◌≡◌, ℕ, ◌+◌, ◌-◌, ◌<◌, ◌≤◌, Some, drop, length, slice_get, sum_by, refl, sym, subst, arith}
 use Rattle.std.proofs.lemmas.Option.{slice_get_read}
 use Rattle.geo_terms.specs.declared.nodes.Node.{Node}
 use Rattle.geo_terms.specs.Stores.{HasChildrenBelow}
+use Rattle.geo_points.specs.declared.ids.TermId.{TermId}
+use Rattle.fraction_poly.specs.Inner.Charges.{charge_below, own_charge_at}
+use Rattle.fraction_poly.specs.Inner.Parts.{StandsFrom}
+use Rattle.fraction_poly.proofs.Ranges.{range_sum-upto}
 use Rattle.fraction_poly.proofs.Cuts.{IsInterned, cut-more, moved_below, part_placed}
 use Rattle.fraction_poly.proofs.cutting.cut_out.Goals as goal
 
@@ -53,3 +57,15 @@ loop-k-preserved c =
     c.in_ok-place.place c.intern.new.self
     (subst (λ (n : Node). IsInterned c.loop-k.cut c.intern.new.self n c.in_ok-place.place) c.moved.ensures interned) c.insert.new.self
     c.in_ok-insert.ensures.updates
+
+pub returns-clause-charges : goal.returns-clause-charges
+returns-clause-charges c =
+    let nodes = c.args.terms.now in
+    let cut = c.loop-k.cut in
+    let order = c.in_ok-order.order.items in
+    let none : c.loop-k.k ≡ 0 = omega (arith, c.loop-k-test.false) in
+    let placed = c.loop-k.invariant.placed c.args.id (subst (λ (k : ℕ). StandsFrom k order c.args.id) (sym none) c.in_ok-order.ensures.own) in
+    let within = subst (λ (p : TermId). p.0 < length cut) (sym c.place-place.ensures) (c.loop-k.invariant.stands c.args.id placed) in
+    let all = subst (λ (k : ℕ). charge_below cut (length cut) ≤ sum_by (λ (d : TermId). own_charge_at nodes d.0) (drop k order)) none c.loop-k.invariant.charges in
+    let upto = range_sum-upto (own_charge_at cut) (c.place-place.result.0 + 1) (length cut) (omega (arith, within)) in
+    omega (arith, upto, all, c.in_ok-order.ensures.charges)

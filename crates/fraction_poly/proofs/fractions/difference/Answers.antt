@@ -5,13 +5,13 @@ use Rattle.fraction_poly.specs.MultipliedOut.{whole_fraction}
 use Rattle.fraction_poly.proofs.OneDenominators.{difference_over_one}
 use Rattle.fraction_poly.proofs.fractions.difference.Goals as goal
 
-pub returns-then-is_one-2 : goal.returns-then-is_one-2
-returns-then-is_one-2 c =
+pub returns-then-is_unit-2-clause-difference : goal.returns-then-is_unit-2-clause-difference
+returns-then-is_unit-2-clause-difference g c =
     let a = c.args.left.now in
     let b = c.args.right.now in
     IfOk-weaker c.whole.result _ _
     (λ f is. is
     ∙ ap whole_fraction (IfOk-at_ok (λ p. p ≡ difference_of a.0 b.0) c.in_ok-numerator.ensures c.sub.ensures.difference)
-    ∙ difference_over_one a b (c.is_one.ensures c.if-is_one.true) (c.is_one-then-is_one.ensures c.if-is_one-2.true)
+    ∙ difference_over_one a b (c.is_unit.ensures c.if-is_unit.true) (c.is_unit-then-is_unit.ensures c.if-is_unit-2.true)
     c.is_valid.ensures.valid c.is_valid-2.ensures.valid)
     c.whole.ensures

@@ -1,7 +1,13 @@
 use Rattle.std.proofs.Common.{inl, sym, subst}
 use Rattle.geo_points.specs.declared.ids.TermId.{TermId}
-use Rattle.fraction_poly.proofs.ReachedParts.{IsReaching, PutsParts, TakesGreatest, takes_greatest, drained, height_falls, reaching-all, reaching-more}
+use Rattle.fraction_poly.proofs.ReachedParts.{IsReaching, PutsParts, TakesGreatest, takes_greatest, drained, height_falls, reaching-all, reaching-first, reaching-more}
 use Rattle.fraction_poly.proofs.reaching.reached.Goals as goal
+
+pub loop-index-init : goal.loop-index-init
+loop-index-init c =
+    subst (IsReaching c.args.terms.now c.args.id c.insert.new.self) (sym c.new-order.ensures.items)
+    (reaching-first c.args.terms.now c.len.ensures.valid c.args.id c.new-pending.result c.insert.new.self c.new-pending.ensures.empty c.requires
+    c.in_ok-insert.ensures.updates)
 
 pub node-requires : goal.node-requires
 node-requires c = c.loop-index.invariant.stored (record { 0 = c.in-Some.index }) (inl c.in-Some.ensures.member)

@@ -1,4 +1,4 @@
-use Rattle.std.proofs.Common.{◌≡◌, ℕ, ◌+◌, ◌∷◌, ◌++◌, [], ℤ, pos, List, length, ◌<◌, get_or, take, drop, sym, ap, subst, ◌∙◌, arith}
+use Rattle.std.proofs.Common.{◌≡◌, ℕ, ◌+◌, ◌∷◌, ◌++◌, [], ℤ, pos, Err, List, length, ◌<◌, get_or, take, drop, sym, ap, subst, ◌∙◌, arith}
 use Rattle.std.specs.Prelude.{◌↔◌, IsTrue}
 use Rattle.std.proofs.lemmas.Bool.Decides.{nat_tests}
 use Rattle.std.proofs.lemmas.Result.{err_from_is_err_and}
@@ -11,7 +11,7 @@ use Rattle.geo_poly.specs.Specialise.{NoneZero}
 use Rattle.geo_sample.specs.declared.errors.SampleError.{SampleError}
 use Rattle.geo_sample.specs.Tries.{AreMade, EndIn, all_specialised, single_tries}
 use Rattle.geo_sample.specs.Samples.{specialised_by}
-use Rattle.geo_sample.proofs.TryEnds.{AreMade-nil, if_err}
+use Rattle.geo_sample.proofs.TryEnds.{AreMade-nil, handed_on, if_err}
 use Rattle.geo_sample.proofs.LeastSamples.{no_value, short_values, single_try, more_single, stopped_single, specialised_by-append}
 use Rattle.geo_sample.proofs.holding.numbers_hold.Goals as goal
 
@@ -22,20 +22,20 @@ parts : (xs : List (Var × ℤ)) (i : ℕ) → i < length xs → take i xs ++ ge
 parts xs i lt = ap (λ (ys : List (Var × ℤ)). take i xs ++ ys) (sym (drop_at xs i (get_or xs i none) lt (get_or_any xs i none (get_or xs i none) lt))) ∙ take-append-drop i xs
 
 pub returns-then-is_empty-clause-hold : goal.returns-then-is_empty-clause-hold
-returns-then-is_empty-clause-hold c =
+returns-then-is_empty-clause-hold g c =
     let none_long : length c.args.values.now ≡ 0 = grind (arith, nat_tests, c.if-is_empty.ensures) in
     let none = no_value c.args.values.now none_long in
     subst (λ (xs : List (Var × ℤ)). IsTrue c.none_zero.result ↔ NoneZero (specialised_by xs c.args.polys.now)) (sym none) c.none_zero.ensures
 
 pub returns-then-is_empty-clause-made : goal.returns-then-is_empty-clause-made
-returns-then-is_empty-clause-made c =
+returns-then-is_empty-clause-made g c =
     let left = c.args.budget.now.left in
     let none_long : length c.args.values.now ≡ 0 = grind (arith, nat_tests, c.if-is_empty.ensures) in
     let none = no_value c.args.values.now none_long in
     subst (λ (xs : List (Var × ℤ)). AreMade left (single_tries xs c.args.polys.now) left) (sym none) (AreMade-nil left)
 
 pub returns-in_err-affordable_at_first-clause-stopped : goal.returns-in_err-affordable_at_first-clause-stopped
-returns-in_err-affordable_at_first-clause-stopped c =
+returns-in_err-affordable_at_first-clause-stopped g c =
     let xs = c.args.values.now in
     let ps = c.args.polys.now in
     let left = c.args.budget.now.left in
@@ -46,7 +46,7 @@ returns-in_err-affordable_at_first-clause-stopped c =
     (subst (λ (e : SampleError). EndIn e left (single_tries xs ps) left) (sym spent.0) (short_values xs ps left some spent.1))
 
 pub returns-in_err-put_value-clause-stopped : goal.returns-in_err-put_value-clause-stopped
-returns-in_err-put_value-clause-stopped c =
+returns-in_err-put_value-clause-stopped g c =
     let xs = c.args.values.now in
     let ps = c.args.polys.now in
     let i = c.loop-value.value-index in
@@ -62,7 +62,7 @@ returns-in_err-put_value-clause-stopped c =
     (stopped_single e x ps (take i xs) (drop (i + 1) xs) left mid rest c.loop-value.invariant.made stop))
 
 pub loop-value-preserved : goal.loop-value-preserved
-loop-value-preserved c =
+loop-value-preserved g c =
     let xs = c.args.values.now in
     let ps = c.args.polys.now in
     let i = c.loop-value.value-index in
@@ -79,4 +79,18 @@ loop-value-preserved c =
       made =
           subst (λ (ys : List (Var × ℤ)). AreMade left (single_tries ys ps) rest) (sym more)
           (more_single x ps (take i xs) left mid rest c.loop-value.invariant.made made);
+      counted = omega (arith, c.in_ok-put_value.ensures.counted, c.loop-value.invariant.counted);
     }
+
+pub returns-in_err-put_value-clause-ticks : goal.returns-in_err-put_value-clause-ticks
+returns-in_err-put_value-clause-ticks g c = omega (arith, c.in_err-put_value.ensures.afforded, c.loop-value.invariant.counted)
+
+pub returns-in_err-put_value-clause-unworked : goal.returns-in_err-put_value-clause-unworked
+returns-in_err-put_value-clause-unworked g c =
+    λ e h n.
+    let same = c.in_err-put_value.ensures.unworked e (ap Err (handed_on c.from_residual-in_err-put_value.result c.in_err-put_value.field-0.0 e
+    c.from_residual-in_err-put_value.ensures.1 h)) n in
+    omega (arith, same, ap (λ b. b.left) c.in_err-put_value.ensures.unpaid, c.loop-value.invariant.counted)
+
+pub returns-clause-ticks : goal.returns-clause-ticks
+returns-clause-ticks g c = omega (arith, c.loop-value.invariant.counted)

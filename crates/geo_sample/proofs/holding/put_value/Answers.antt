@@ -1,15 +1,15 @@
-use Rattle.std.proofs.Common.{◌<◌, ◌≤◌, ◌∷◌, [], inl, inr, length, sum_by, FitsSigned, List, ℕ, ℤ, sym, subst, rules}
+use Rattle.std.proofs.Common.{◌≡◌, ◌<◌, ◌≤◌, ◌∷◌, [], inl, inr, length, sum_by, Err, FitsSigned, List, ℕ, ℤ, sym, ap, subst, ◌∙◌, arith, rules}
 use Rattle.std.specs.Int.{w128}
 use Rattle.std.proofs.lemmas.Int.{to_z-of_z}
 use Rattle.std.proofs.lemmas.Result.{err_from_is_err_and}
 use Rattle.geo_poly.specs.Polynomials.{Summands}
 use Rattle.geo_sample.specs.declared.errors.SampleError.{SampleError}
 use Rattle.geo_sample.specs.Tries.{Try, EndIn, charge_of, IsTooLarge}
-use Rattle.geo_sample.proofs.TryEnds.{one_spent, one_large, one_short, if_err}
+use Rattle.geo_sample.proofs.TryEnds.{handed_on, one_spent, one_large, one_short, if_err}
 use Rattle.geo_sample.proofs.holding.put_value.Goals as goal
 
 pub returns-in_err-charge-clause-stopped : goal.returns-in_err-charge-clause-stopped
-returns-in_err-charge-clause-stopped c =
+returns-in_err-charge-clause-stopped g c =
     let left = c.args.budget.now.left in
     let t : Try = record { variable = c.args.value.now.0; number = c.args.value.now.1; polys = c.args.polys.now.items } in
     let p = err_from_is_err_and c.from_residual.result c.from_residual.ensures.1 in
@@ -19,7 +19,7 @@ returns-in_err-charge-clause-stopped c =
     (subst (λ (e : SampleError). EndIn e left (t ∷ []) left) (sym spent.0) (one_spent left t short))
 
 pub returns-in_err-put_number-clause-stopped : goal.returns-in_err-put_number-clause-stopped
-returns-in_err-put_number-clause-stopped c =
+returns-in_err-put_number-clause-stopped g c =
     let left = c.args.budget.now.left in
     let t : Try = record { variable = c.args.value.now.0; number = c.args.value.now.1; polys = c.args.polys.now.items } in
     let p = err_from_is_err_and c.from_residual-in_err-put_number.result c.from_residual-in_err-put_number.ensures.1 in
@@ -34,3 +34,24 @@ returns-in_err-put_number-clause-stopped c =
           (λ (z : ℤ). IsTooLarge (record { variable = c.args.value.now.0; number = z; polys = c.args.polys.now.items }))
           (to_z-of_z w128 c.args.value.now.1 fits) large.1))
     ])
+
+pub returns-in_err-put_number-clause-afforded : goal.returns-in_err-put_number-clause-afforded
+returns-in_err-put_number-clause-afforded g c =
+    let charge : c.in_ok-charge.charge ≡ sum_by length c.args.polys.now.items = c.in_ok-charge.ensures.charge ∙ ap (sum_by length) c.deref.ensures.value in
+    omega (arith, charge, c.in_ok-charge.ensures.paid, c.in_err-put_number.ensures.ticks)
+
+pub returns-in_err-put_number-clause-unworked : goal.returns-in_err-put_number-clause-unworked
+returns-in_err-put_number-clause-unworked g c =
+    λ e h n.
+    c.in_err-put_number.ensures.unworked e (ap Err (handed_on c.from_residual-in_err-put_number.result c.in_err-put_number.field-0.0 e
+    c.from_residual-in_err-put_number.ensures.1 h)) n
+
+pub returns-clause-afforded : goal.returns-clause-afforded
+returns-clause-afforded g c =
+    let charge : c.in_ok-charge.charge ≡ sum_by length c.args.polys.now.items = c.in_ok-charge.ensures.charge ∙ ap (sum_by length) c.deref.ensures.value in
+    omega (arith, charge, c.in_ok-charge.ensures.paid, c.in_ok-put_number.ensures.ticks)
+
+pub returns-clause-counted : goal.returns-clause-counted
+returns-clause-counted g c =
+    let charge : c.in_ok-charge.charge ≡ sum_by length c.args.polys.now.items = c.in_ok-charge.ensures.charge ∙ ap (sum_by length) c.deref.ensures.value in
+    omega (arith, charge, c.in_ok-charge.ensures.paid, c.in_ok-put_number.ensures.ticks)

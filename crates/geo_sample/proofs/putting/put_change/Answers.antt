@@ -3,4 +3,4 @@ use Rattle.std.proofs.lemmas.Int.{to_z-of_z}
 use Rattle.geo_sample.proofs.putting.put_change.Goals as goal
 
 pub put_number-requires : goal.put_number-requires
-put_number-requires c = rw (to_z-of_z w128 c.args.number c.ranges.number) c.requires
+put_number-requires g c = rw (to_z-of_z w128 c.args.number c.ranges.number) c.requires

@@ -4,7 +4,7 @@ use Rattle.fraction_poly.specs.declared.drafts.Combination.{Combination}
 use Rattle.fraction_poly.specs.Inner.Drafts.{IsPartFor, by_number, combined_piece, drafted_piece}
 use Rattle.fraction_poly.proofs.PieceBounds.{both_bounded}
 use Rattle.fraction_poly.proofs.RingParts.{bounded_part, part_kept}
-use Rattle.geo_poly.specs.declared.replacement.Piece.{Piece}
+use Rattle.geo_poly.specs.declared.rows.Piece.{Piece}
 use Rattle.fraction_poly.proofs.drafts.Draft.+part.Goals as goal
 
 pub combined-requires-clause-left_element : goal.combined-requires-clause-left_element

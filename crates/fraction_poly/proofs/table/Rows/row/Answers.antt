@@ -3,8 +3,8 @@ use Rattle.std.proofs.lemmas.Result.{IfOk-weaker}
 use Rattle.fraction_poly.specs.Inner.Drafts.{row_of_draft}
 use Rattle.fraction_poly.specs.TableRows.{AreLight, RowFits, RowHolds, TableRow, made_row, row_numbers}
 use Rattle.fraction_poly.proofs.TableLemmas.{bounded_row, of_made}
-use Rattle.geo_poly.specs.declared.replacement.Piece.{Piece}
-use Rattle.geo_poly.specs.declared.replacement.Row.{Row}
+use Rattle.geo_poly.specs.declared.rows.Piece.{Piece}
+use Rattle.geo_poly.specs.declared.rows.Row.{Row}
 use Rattle.fraction_poly.proofs.table.Rows.row.Goals as goal
 
 pub returns-clause-bounded : goal.returns-clause-bounded
