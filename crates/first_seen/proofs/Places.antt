@@ -1,9 +1,7 @@
 -- What a look-up tells of keys, also when one comes last.
-use Rattle.std.proofs.Common.{◌≡◌, ℕ, zero, suc, ◌+◌, ◌<◌, ◌≤◌, Bool, true, false, cond, ◌||◌, List, [], ◌∷◌, ◌++◌, if◌then◌else◌, Option, Some, None, is_some, length, take, get_or, slice_get, refl, sym, ap, ap₂, subst, ◌∙◌, arith}
-use denote.Ref.{Bor}
+use Rattle.std.proofs.Common.{◌≡◌, ℕ, zero, suc, ◌+◌, ◌<◌, ◌≤◌, Bool, true, false, cond, ◌||◌, List, [], ◌∷◌, ◌++◌, if◌then◌else◌, Option, Some, None, is_some, unwrap_or, length, take, get_or, slice_get, refl, sym, ap, ap₂, subst, ◌∙◌, arith}
 use Rattle.std.specs.Cmp.{IsEquivalence}
 use Rattle.std.specs.List.{list_any}
-use Rattle.std.specs.Option.{option_copied}
 use Rattle.std.proofs.Math.Seq.{take-suc}
 use Rattle.std.proofs.lemmas.List.{length-take-le, take_all}
 use Rattle.std.proofs.lemmas.List.Folds.{list_any-append, list_any_at}
@@ -46,11 +44,17 @@ module _ {K : Type 0} (eq : K → K → Bool) where
       by false e (Some i) t = (t.0, at_push keys last i t.0 t.1, t.2)
       by false e None t = list_any-append (eq q) keys (last ∷ []) ∙ ap₂ (λ a b. a || (b || false)) t (laws.symm q last ∙ e)
 
-  -- what a look-up reads
-  pub read : (keys view : List K) → keys ≡ view → (f : K → Option ℕ) → ArePlaces eq keys f → (k : K) (r : Option (Bor ℕ)) → option_copied r ≡ f k
-      → (p : Bor ℕ) → r ≡ Some p → Tells eq view k (Some p.now)
-  read keys view same f all k r reads p is =
-      subst (λ (ks : List K). Tells eq ks k (Some p.now)) same (subst (Tells eq keys k) (sym reads ∙ ap option_copied is) (all k))
+  -- one search tells the place of an equal key, or the next one
+  pub known_there : (keys : List K) (k : K) (o : Option ℕ) (place next : ℕ) → Tells eq keys k o → next ≡ length keys → place ≡ unwrap_or o next
+      → (place ≡ next → ⊥) → Tells eq keys k (Some place)
+  known_there keys k None place next t end is apart = absurd (apart is)
+  known_there keys k (Some i) place next t end is apart = (t.0, subst (λ n. slice_get keys n ≡ Some t.0) (sym is) t.1, t.2)
+
+  pub none_there : (keys : List K) (k : K) (o : Option ℕ) (place next : ℕ) → Tells eq keys k o → next ≡ length keys → place ≡ unwrap_or o next
+      → place ≡ next → Tells eq keys k None
+  none_there keys k None place next t end is last = t
+  none_there keys k (Some i) place next t end is last =
+      let within : i < length keys = slice_get_within keys i t.0 t.1 in absurd (omega (arith, within, end, is, last))
 
   -- the place of one key more
   pub next_place : IsEquivalence eq → (keys : List K) (i : ℕ) (k : K) (f g : K → Option ℕ) → i < length keys → get_or keys i k ≡ k

@@ -1,7 +1,7 @@
 //! Keys by their numbers, which are found in time that grows with the logarithm of how many they are.
 
-ghost use Rattle.std.specs.Prelude.{◌≡◌, ◌<◌, ◌↔◌, [], IfOk, IsTrue, OnErr, OnOk, Some, length, not};
-ghost use Rattle.std.specs.Prelude.{slice_get, true};
+ghost use Rattle.std.specs.Prelude.{◌≡◌, ◌<◌, ◌↔◌, [], IfOk, IsTrue, OnErr, OnOk, Some, cond};
+ghost use Rattle.std.specs.Prelude.{length, not, slice_get, true, unwrap_or};
 ghost use Rattle.std.specs.List.{list_any};
 ghost use Rattle.std.specs.Ordering.{eq_by_cmp};
 ghost use Rattle.std.specs.BTreeMap.{get};
@@ -51,6 +51,20 @@ fn places_of<K: Ord + Copy>(alloc: Global, keys: &[K]) -> Result<BTreeMap<K, usi
     Ok(places)
 }
 
+/// The number of the key, which is `next` where there is none equal to it: one search.
+fn place_of<K: Ord + Copy>(
+    places: &mut BTreeMap<K, usize>,
+    key: K,
+    next: usize,
+) -> Result<usize, AllocError>
+    ensures place { IfOk result (λ place. place ≡ unwrap_or (get K.cmp places.old key) next) }
+    ensures updates { IfOk result (λ place. (q : K) → get K.cmp places.new q
+        ≡ cond (eq_by_cmp K.cmp key q) (Some place) (get K.cmp places.old q)) }
+    ensures err { OnErr result ((q : K) → get K.cmp places.new q ≡ get K.cmp places.old q) }
+{
+    Ok(*places.entry(key)?.or_insert(next))
+}
+
 impl<K: Ord + Copy> FirstSeen<K> {
     /// No keys.
     pub fn new(alloc: Global) -> FirstSeen<K>
@@ -82,14 +96,14 @@ impl<K: Ord + Copy> FirstSeen<K> {
             × (eq_by_cmp K.cmp key k ≡ true)) }
         ensures err { OnErr result (self.new ≡ self.old) }
     {
-        if let Some(place) = self.places.get(&key) {
-            return Ok((*place, false));
-        }
-        let place = self.keys.len();
         self.keys.reserve(1)?;
-        self.places.insert(key, place)?;
-        self.keys.push(key)?;
-        Ok((place, true))
+        let next = self.keys.len();
+        let place = place_of(&mut self.places, key, next)?;
+        let added = place == next;
+        if added {
+            self.keys.push(key)?;
+        }
+        Ok((place, added))
     }
 
     /// The key comes last where there is none equal to it; and whether it does.

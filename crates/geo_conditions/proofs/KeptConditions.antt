@@ -1,5 +1,5 @@
 -- Conditions that are kept by index: equal conditions are equal by their trees, and what a listed condition does to the list.
-use Rattle.std.proofs.Common.{◌≡◌, ℕ, Bool, true, false, ◌<◌, ◌≤◌, suc, Contains, List, [], ◌∷◌, ◌++◌, length, map, Some, slice_get, refl, sym, ap, subst, ◌∙◌, if◌then◌else◌, true≢false, arith}
+use Rattle.std.proofs.Common.{◌≡◌, ℕ, Bool, true, false, ◌<◌, ◌≤◌, suc, Contains, List, [], ◌∷◌, ◌++◌, length, map, Some, slice_get, slice_index_or, refl, sym, ap, subst, ◌∙◌, if◌then◌else◌, true≢false, arith}
 use Rattle.std.specs.Prelude.{max}
 use Rattle.std.specs.List.{AllByRecursion, list_any}
 use Rattle.std.proofs.lemmas.List.{map-append, map_push}
@@ -22,8 +22,9 @@ use Rattle.geo_conditions.specs.declared.condition_list.ConditionList.{Condition
 use Rattle.geo_conditions.specs.declared.conditions.Condition.{Condition as KeptCondition}
 use Rattle.geo_conditions.specs.declared.conditions.Condition.TheVariants.{Different, NotCollinear, NotParallel, Crossing, Nonzero}
 use Rattle.geo_conditions.specs.declared.conditions.ListedCondition.{ListedCondition}
-use Rattle.geo_conditions.specs.Inner.ConditionLists.{AreListed, HasBraces, IsConditionList, IsKept, Lists, condition_of, found_of}
+use Rattle.geo_conditions.specs.Inner.ConditionLists.{AreListed, HasBraces, IsConditionList, IsKept, IsMarked, Lists, condition_of, found_of}
 use Rattle.geo_conditions.specs.Lists.{Found, found_at}
+use Rattle.geo_conditions.proofs.Marks.{marked_more}
 use Rattle.geo_conditions.proofs.Listings.{Leads, held, leads_both, leads_contain, leads_keep, leads_known, leads_new, leads_none, own_keys, unmapped}
 
 -- a number that tells the kind of a condition
@@ -84,9 +85,8 @@ module _ (nodes : Store) where
   IsWalked items e = AreListed nodes items (expression_conditions (tree_of nodes e))
 
   still_walked : (old new : List ListedCondition) → ((c : Condition) → Contains (map key (found old)) c → Contains (map key (found new)) c)
-      → (es : List TermId) → AllByRecursion (IsWalked old) es → AllByRecursion (IsWalked new) es
-  still_walked old new f [] h = tt
-  still_walked old new f (e ∷ es) h = (still_listed old new f (expression_conditions (tree_of nodes e)) h.0, still_walked old new f es h.1)
+      → (marks : List Bool) → ((e : TermId) → IsMarked marks e → IsWalked old e) → (e : TermId) → IsMarked marks e → IsWalked new e
+  still_walked old new f marks h e marked = still_listed old new f (expression_conditions (tree_of nodes e)) (h e marked)
 
   -- the parts of a step of the list
   pub lists_by : (old new : ConditionList) (xs : List Found) → IsConditionList nodes old → Leads key (found old.items.items) xs (found new.items.items)
@@ -96,7 +96,7 @@ module _ (nodes : Store) where
       store = h.store;
       known = known;
       kept = keeps;
-      walked = subst (λ es. AllByRecursion (IsWalked new.items.items) es) (sym walked)
+      walked = subst (λ marks. (e : TermId) → IsMarked marks e → IsWalked new.items.items e) (sym walked)
           (still_walked old.items.items new.items.items (leads_keep key (found old.items.items) xs (found new.items.items) leads) old.walked h.walked);
     };
     leads = leads;
@@ -163,44 +163,33 @@ module _ (nodes : Store) where
   abbrev conditions_at : ℕ → TermId → List Found
   conditions_at line e = found_at line (expression_conditions (tree_of nodes e))
 
-  -- by an `==` that is equality
-  module _ (eq : TermId → TermId → Bool) (same : (x y : TermId) → eq x y ≡ true → x ≡ y) where
-    -- a term that was walked gives no more
-    pub walked_before : (list : ConditionList) (e : TermId) (line : ℕ) → IsConditionList nodes list → list_any (eq e) list.walked ≡ true → Lists nodes list list (conditions_at line e)
-    walked_before list e line h there =
-        let items = list.items.items in
-        let all : IsWalked items e = held (λ f. f) (IsWalked items) list.walked e h.walked
-        (subst (λ es. Contains es e) (map_same list.walked) (Contains-list_any eq same list.walked e there)) in
-        record { valid = h; leads = leads_known key (found items) (conditions_at line e) (at_line line (Contains (map key (found items))) (expression_conditions (tree_of nodes e)) all) }
-      where
-        map_same : (es : List TermId) → es ≡ map (λ f. f) es
-        map_same [] = refl
-        map_same (e ∷ es) = ap (λ l. e ∷ l) (map_same es)
+  -- a term that was walked gives no more
+  pub walked_before : (list : ConditionList) (e : TermId) (line : ℕ) → IsConditionList nodes list → IsMarked list.walked e → Lists nodes list list (conditions_at line e)
+  walked_before list e line h marked =
+      let items = list.items.items in
+      record {
+        valid = h;
+        leads = leads_known key (found items) (conditions_at line e)
+            (at_line line (Contains (map key (found items))) (expression_conditions (tree_of nodes e)) (h.walked e marked));
+      }
 
-    each_with_key : (Q : TermId → Type 0) (es : List TermId) (e : TermId) → AllByRecursion Q es → Q e → AllByRecursion Q (with_key eq es e)
-    each_with_key Q es e h k = by (list_any (eq e) es)
-      where
-        by : (b : Bool) → AllByRecursion Q (if b then es else es ++ e ∷ [])
-        by true = h
-        by false = each_append Q es (e ∷ []) h (k, tt)
-
-    -- a term whose conditions are listed is marked
-    pub walked_now : (old mid new : ConditionList) (e : TermId) (line : ℕ) → Lists nodes old mid (conditions_at line e) → new.items.items ≡ mid.items.items → new.known ≡ mid.known
-        → new.walked ≡ with_key eq mid.walked e → Lists nodes old new (conditions_at line e)
-    walked_now old mid new e line f items known walked =
-        let done : IsWalked mid.items.items e =
-        unmapped (λ c. record { condition = c; line = line }) (λ g. Contains (map key (found mid.items.items)) g.condition) (expression_conditions (tree_of nodes e))
-        (leads_contain key (found old.items.items) (conditions_at line e) (found mid.items.items) f.leads).1 in
-        record {
-          valid = record {
-            store = f.valid.store;
-            known = known ∙ f.valid.known ∙ ap (map kept) (sym items);
-            kept = subst (λ all. AllByRecursion (λ j. IsKept nodes j.condition) all) (sym items) f.valid.kept;
-            walked = subst (λ all. AllByRecursion (IsWalked all) new.walked) (sym items)
-                (subst (λ es. AllByRecursion (IsWalked mid.items.items) es) (sym walked) (each_with_key (IsWalked mid.items.items) mid.walked e f.valid.walked done));
-          };
-          leads = subst (λ all. Leads key (found old.items.items) (conditions_at line e) (found all)) (sym items) f.leads;
-        }
+  -- a term whose conditions are listed is marked
+  pub walked_now : (old mid new : ConditionList) (e : TermId) (line : ℕ) → Lists nodes old mid (conditions_at line e) → new.items.items ≡ mid.items.items → new.known ≡ mid.known
+      → ((i : ℕ) → (i ≡ e.0 → ⊥) → slice_index_or new.walked i false ≡ slice_index_or mid.walked i false) → Lists nodes old new (conditions_at line e)
+  walked_now old mid new e line f items known others =
+      let done : IsWalked mid.items.items e =
+      unmapped (λ c. record { condition = c; line = line }) (λ g. Contains (map key (found mid.items.items)) g.condition) (expression_conditions (tree_of nodes e))
+      (leads_contain key (found old.items.items) (conditions_at line e) (found mid.items.items) f.leads).1 in
+      record {
+        valid = record {
+          store = f.valid.store;
+          known = known ∙ f.valid.known ∙ ap (map kept) (sym items);
+          kept = subst (λ all. AllByRecursion (λ j. IsKept nodes j.condition) all) (sym items) f.valid.kept;
+          walked = subst (λ all. (t : TermId) → IsMarked new.walked t → IsWalked all t) (sym items)
+              (marked_more (IsWalked mid.items.items) mid.walked new.walked e others f.valid.walked done);
+        };
+        leads = subst (λ all. Leads key (found old.items.items) (conditions_at line e) (found all)) (sym items) f.leads;
+      }
 
   -- PARTS OF TERMS
   -- a term without parts that is no ratio gives no condition

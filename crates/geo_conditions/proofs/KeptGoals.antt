@@ -1,6 +1,6 @@
 -- Goals that are kept, and what a listed goal does to the list.
-use Rattle.std.proofs.Common.{◌≡◌, Bool, true, false, Contains, List, [], ◌∷◌, ◌++◌, map, refl, sym, ap, subst, subst₂, ◌∙◌, if◌then◌else◌, true≢false}
-use Rattle.std.specs.List.{AllByRecursion, list_any}
+use Rattle.std.proofs.Common.{◌≡◌, ℕ, Bool, true, false, Contains, List, [], ◌∷◌, ◌++◌, map, slice_index_or, refl, sym, ap, subst, subst₂, ◌∙◌, if◌then◌else◌, true≢false}
+use Rattle.std.specs.List.{list_any}
 use Rattle.std.proofs.lemmas.List.{append-nil}
 use Rattle.std.proofs.lemmas.List.Folds.{list_any_at}
 use Rattle.first_seen.specs.Keys.{with_key}
@@ -12,12 +12,13 @@ use Rattle.geo_terms.specs.declared.nodes.Node.{Node}
 use Rattle.geo_terms.specs.declared.nodes.Node.TheVariants.{Int, Param, S, P, R, Neg, Add, Sub, Mul, Div}
 use Rattle.geo_terms.specs.Stores.{Store, node_tree, tree_of}
 use Rattle.geo_terms.specs.Trees.{Tree}
-use Rattle.geo_lowering.proofs.ConditionValues.{each_append}
 use Rattle.geo_conditions.specs.declared.goal_list.GoalList.{GoalList}
+use Rattle.geo_conditions.specs.Inner.ConditionLists.{IsMarked}
 use Rattle.geo_conditions.specs.Inner.GoalLists.{AreGoalsListed, IsGoalList, ListsGoals}
 use Rattle.geo_conditions.specs.Lists.{IsListed}
 use Rattle.geo_conditions.specs.Statements.{ratio_goals}
-use Rattle.geo_conditions.proofs.Listings.{Leads, held, leads_both, leads_contain, leads_keep, leads_known, leads_new, leads_none}
+use Rattle.geo_conditions.proofs.Marks.{marked_more}
+use Rattle.geo_conditions.proofs.Listings.{Leads, leads_both, leads_contain, leads_keep, leads_known, leads_new, leads_none}
 
 abbrev pub itself : {A : Type 0} → A → A
 itself a = a
@@ -48,16 +49,15 @@ module _ (nodes : Store) where
   still_listed old new f [] h = tt
   still_listed old new f (g ∷ gs) h = (f g h.0, still_listed old new f gs h.1)
 
-  still_walked : (old new : List Statement) → ((g : Statement) → Contains (map itself old) g → Contains (map itself new) g) → (es : List TermId)
-      → AllByRecursion (IsWalked old) es → AllByRecursion (IsWalked new) es
-  still_walked old new f [] h = tt
-  still_walked old new f (e ∷ es) h = (still_listed old new f (ratio_goals (tree_of nodes e)) h.0, still_walked old new f es h.1)
+  still_walked : (old new : List Statement) → ((g : Statement) → Contains (map itself old) g → Contains (map itself new) g)
+      → (marks : List Bool) → ((e : TermId) → IsMarked marks e → IsWalked old e) → (e : TermId) → IsMarked marks e → IsWalked new e
+  still_walked old new f marks h e marked = still_listed old new f (ratio_goals (tree_of nodes e)) (h e marked)
 
   lists_by : (old new : GoalList) (xs : List Statement) → IsGoalList nodes old → Leads itself old.goals xs new.goals → new.walked ≡ old.walked → ListsGoals nodes old new xs
   lists_by old new xs h leads walked = record {
     valid = record {
       store = h.store;
-      walked = subst (λ es. AllByRecursion (IsWalked new.goals) es) (sym walked)
+      walked = subst (λ marks. (e : TermId) → IsMarked marks e → IsWalked new.goals e) (sym walked)
           (still_walked old.goals new.goals (leads_keep itself old.goals xs new.goals leads) old.walked h.walked);
     };
     leads = leads;
@@ -90,34 +90,23 @@ module _ (nodes : Store) where
         by false e = leads_new itself old.goals g (λ u. absent old.goals g e (subst (λ l. Contains l g) (sym (map_itself old.goals)) u))
 
   -- WALKED TERMS
-  module _ (eq : TermId → TermId → Bool) (same : (x y : TermId) → eq x y ≡ true → x ≡ y) where
-    -- a term that was walked gives no more
-    pub walked_before : (list : GoalList) (e : TermId) → IsGoalList nodes list → list_any (eq e) list.walked ≡ true → ListsGoals nodes list list (ratio_goals (tree_of nodes e))
-    walked_before list e h there =
-        let all : IsWalked list.goals e = held itself (IsWalked list.goals) list.walked e h.walked
-        (subst (λ es. Contains es e) (map_itself list.walked) (Contains-list_any eq same list.walked e there)) in
-        record { valid = h; leads = leads_known itself list.goals (ratio_goals (tree_of nodes e)) all }
+  -- a term that was walked gives no more
+  pub walked_before : (list : GoalList) (e : TermId) → IsGoalList nodes list → IsMarked list.walked e → ListsGoals nodes list list (ratio_goals (tree_of nodes e))
+  walked_before list e h marked = record { valid = h; leads = leads_known itself list.goals (ratio_goals (tree_of nodes e)) (h.walked e marked) }
 
-    each_with_key : (Q : TermId → Type 0) (es : List TermId) (e : TermId) → AllByRecursion Q es → Q e → AllByRecursion Q (with_key eq es e)
-    each_with_key Q es e h k = by (list_any (eq e) es)
-      where
-        by : (b : Bool) → AllByRecursion Q (if b then es else es ++ e ∷ [])
-        by true = h
-        by false = each_append Q es (e ∷ []) h (k, tt)
-
-    -- a term whose goals are listed is marked
-    pub walked_now : (old mid new : GoalList) (e : TermId) → ListsGoals nodes old mid (ratio_goals (tree_of nodes e)) → new.goals ≡ mid.goals
-        → new.walked ≡ with_key eq mid.walked e → ListsGoals nodes old new (ratio_goals (tree_of nodes e))
-    walked_now old mid new e f goals walked =
-        let done : IsWalked mid.goals e = (leads_contain itself old.goals (ratio_goals (tree_of nodes e)) mid.goals f.leads).1 in
-        record {
-          valid = record {
-            store = f.valid.store;
-            walked = subst (λ all. AllByRecursion (IsWalked all) new.walked) (sym goals)
-                (subst (λ es. AllByRecursion (IsWalked mid.goals) es) (sym walked) (each_with_key (IsWalked mid.goals) mid.walked e f.valid.walked done));
-          };
-          leads = subst (Leads itself old.goals (ratio_goals (tree_of nodes e))) (sym goals) f.leads;
-        }
+  -- a term whose goals are listed is marked
+  pub walked_now : (old mid new : GoalList) (e : TermId) → ListsGoals nodes old mid (ratio_goals (tree_of nodes e)) → new.goals ≡ mid.goals
+      → ((i : ℕ) → (i ≡ e.0 → ⊥) → slice_index_or new.walked i false ≡ slice_index_or mid.walked i false) → ListsGoals nodes old new (ratio_goals (tree_of nodes e))
+  walked_now old mid new e f goals others =
+      let done : IsWalked mid.goals e = (leads_contain itself old.goals (ratio_goals (tree_of nodes e)) mid.goals f.leads).1 in
+      record {
+        valid = record {
+          store = f.valid.store;
+          walked = subst (λ all. (t : TermId) → IsMarked new.walked t → IsWalked all t) (sym goals)
+              (marked_more (IsWalked mid.goals) mid.walked new.walked e others f.valid.walked done);
+        };
+        leads = subst (Leads itself old.goals (ratio_goals (tree_of nodes e))) (sym goals) f.leads;
+      }
 
   -- the goals of the ratios, and then the statement, are all that are listed
   pub listed_goals : (start one two three : GoalList) (xs ys all : List Statement) (g : Statement) → start.goals ≡ [] → ListsGoals nodes start one xs → ListsGoals nodes one two ys

@@ -10,6 +10,7 @@ pub mod Verdicts
 pub mod TermValues
 pub mod Texts
 pub mod ValueLaws
+pub mod Marks
 pub mod KeptConditions
 pub mod KeptGoals
 pub mod TermsInterned

@@ -10,6 +10,7 @@ ghost use Rattle.geo_conditions.specs.Inner.ConditionLists.{IsSameList};
 ghost use Rattle.geo_conditions.specs.Lists.{found_at};
 
 use crate::conditions::{Condition, ListedCondition};
+use crate::term_set::TermSet;
 use first_seen::FirstSeen;
 use geo_points::{NoMemory, TermId};
 use geo_terms::{Node, Terms};
@@ -24,7 +25,7 @@ pub struct ConditionList {
     /// The same conditions, for look-ups.
     pub known: FirstSeen<Condition>,
     /// The terms that were walked.
-    pub walked: FirstSeen<TermId>,
+    pub walked: TermSet,
 }
 
 // Whether the node is a number other than 0, which no divisor's condition speaks of.
@@ -48,7 +49,7 @@ impl ConditionList {
         ConditionList {
             items: Vec::new(alloc),
             known: FirstSeen::new(alloc),
-            walked: FirstSeen::new(alloc),
+            walked: TermSet::new(alloc),
         }
     }
 
@@ -91,7 +92,7 @@ impl ConditionList {
         ensures { OnOk result (Lists terms.now self.old self.new
             (found_at line (expression_conditions (tree_of terms.now e)))) }
     {
-        if self.walked.contains(&e) {
+        if self.walked.contains(e) {
             return Ok(());
         }
         self.list_parts(terms, e, line)?;

@@ -10,6 +10,7 @@ ghost use Rattle.geo_conditions.specs.Inner.GoalLists.{goals_given};
 ghost use Rattle.geo_conditions.specs.Lists.{AreGoals};
 ghost use Rattle.geo_conditions.specs.Statements.{pair_goals, ratio_goals};
 
+use crate::term_set::TermSet;
 use first_seen::FirstSeen;
 use geo_points::{NoMemory, PointId, TermId};
 use geo_program::Statement;
@@ -22,7 +23,7 @@ pub struct GoalList {
     /// The goals.
     pub goals: FirstSeen<Statement>,
     /// The terms that were walked.
-    pub walked: FirstSeen<TermId>,
+    pub walked: TermSet,
 }
 
 // What gives goals for pairs of points.
@@ -67,7 +68,7 @@ impl GoalList {
     {
         GoalList {
             goals: FirstSeen::new(alloc),
-            walked: FirstSeen::new(alloc),
+            walked: TermSet::new(alloc),
         }
     }
 
@@ -89,7 +90,7 @@ impl GoalList {
         ensures { OnOk result
             (ListsGoals terms.now self.old self.new (ratio_goals (tree_of terms.now e))) }
     {
-        if self.walked.contains(&e) {
+        if self.walked.contains(e) {
             return Ok(());
         }
         self.list_parts(terms, e)?;

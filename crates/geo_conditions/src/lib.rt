@@ -17,6 +17,7 @@ mod program_conditions;
 mod program_items;
 mod relation_items;
 mod renaming;
+mod term_set;
 
 pub use condition_items::condition_text;
 pub use condition_list::ConditionList;
@@ -27,3 +28,4 @@ pub use program_conditions::{list_program, next_point};
 pub use program_items::list_items;
 pub use relation_items::relation_item;
 pub use renaming::{point_at, rename_terms};
+pub use term_set::TermSet;

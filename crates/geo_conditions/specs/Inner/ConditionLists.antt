@@ -1,5 +1,5 @@
 -- Conditions as they are kept, and what listing more of them does.
-use Rattle.std.specs.Prelude.{◌≡◌, ◌<◌, ◌≤◌, Contains, List, [], ◌∷◌, ◌++◌, length, map}
+use Rattle.std.specs.Prelude.{◌≡◌, ◌<◌, ◌≤◌, Bool, true, false, Contains, List, [], ◌∷◌, ◌++◌, length, map, slice_index_or}
 use Rattle.std.specs.List.{AllByRecursion}
 use Rattle.geo_points.specs.declared.ids.TermId.{TermId}
 use Rattle.geo_program.specs.declared.commands.Command.{Command}
@@ -42,12 +42,16 @@ IsKept nodes _ = Unit {0}
 abbrev pub AreListed : Store → List ListedCondition → List Condition → Type 0
 AreListed nodes items conditions = AllByRecursion (λ c. Contains (map (λ f. f.condition) (map (found_of nodes) items)) c) conditions
 
+-- the term is marked
+abbrev pub IsMarked : List Bool → TermId → Type 0
+IsMarked marks e = slice_index_or marks e.0 false ≡ true
+
 -- the look-up has the listed conditions, and those of the walked terms are among them
 pub record IsConditionList (nodes : Store) (list : ConditionList) : Type 0 where
   pub store : IsStore nodes
   pub known : list.known ≡ map (λ i. i.condition) list.items.items
   pub kept : AllByRecursion (λ i. IsKept nodes i.condition) list.items.items
-  pub walked : AllByRecursion (λ e. AreListed nodes list.items.items (expression_conditions (tree_of nodes e))) list.walked
+  pub walked : (e : TermId) → IsMarked list.walked e → AreListed nodes list.items.items (expression_conditions (tree_of nodes e))
 
 -- the same conditions, and the same terms
 pub record IsSameList (old new : ConditionList) : Type 0 where

@@ -1,12 +1,13 @@
 -- Goals as they are kept, and what listing more of them does.
 use Rattle.std.specs.Prelude.{Contains, List, [], ◌∷◌, ◌++◌, map}
 use Rattle.std.specs.List.{AllByRecursion}
+use Rattle.geo_points.specs.declared.ids.TermId.{TermId}
 use Rattle.geo_program.specs.declared.statements.Statement.{Statement}
 use Rattle.geo_terms.specs.Stores.{Store, IsStore, tree_of}
 use Rattle.geo_conditions.specs.declared.goal_list.GoalList.{GoalList}
 use Rattle.geo_conditions.specs.declared.goal_list.GoalSource.{GoalSource}
 use Rattle.geo_conditions.specs.declared.goal_list.GoalSource.TheVariants.{Nothing, One, Expression}
-use Rattle.geo_conditions.specs.Inner.ConditionLists.{HasBraces}
+use Rattle.geo_conditions.specs.Inner.ConditionLists.{HasBraces, IsMarked}
 use Rattle.geo_conditions.specs.Lists.{IsListed}
 use Rattle.geo_conditions.specs.Statements.{ratio_goals}
 
@@ -17,7 +18,7 @@ AreGoalsListed listed goals = AllByRecursion (λ g. Contains (map (λ h. h) list
 -- the goals of the walked terms are listed
 pub record IsGoalList (nodes : Store) (list : GoalList) : Type 0 where
   pub store : IsStore nodes
-  pub walked : AllByRecursion (λ e. AreGoalsListed list.goals (ratio_goals (tree_of nodes e))) list.walked
+  pub walked : (e : TermId) → IsMarked list.walked e → AreGoalsListed list.goals (ratio_goals (tree_of nodes e))
 
 -- the list has these goals more, each once and only where it was not there
 pub record ListsGoals (nodes : Store) (old new : GoalList) (goals : List Statement) : Type 0 where

@@ -1,9 +1,6 @@
-use Rattle.std.proofs.Common.{◌≡◌, true, refl, sym, ap, subst, [], ◌∙◌, ◌++◌, arith, rules}
+use Rattle.std.proofs.Common.{◌≡◌, refl, sym, ap, subst, [], ◌∙◌, ◌++◌, arith}
 use Rattle.std.proofs.lemmas.Result.{on_ok_weaker}
 use Rattle.std.specs.Prelude.{List}
-use Rattle.std.specs.Ordering.{eq_by_cmp}
-use Rattle.geo_points.specs.contracts.ids.TermIdOrd.TheImpl.{cmp-value}
-use Rattle.geo_points.specs.declared.ids.TermId.{TermId}
 use Rattle.geo_lowering.specs.Conditions.{Condition, divisor_conditions, expression_conditions}
 use Rattle.geo_terms.specs.declared.nodes.Node.TheVariants as node
 use Rattle.geo_terms.specs.Stores.{tree_of, trees_of}
@@ -14,17 +11,13 @@ use Rattle.geo_conditions.proofs.KeptConditions.{addition_parts, division_parts,
 use Rattle.geo_conditions.proofs.KeptConditions.{multiplication_parts, negation_part, subtraction_parts, unfolds, walked_before, walked_now}
 use Rattle.geo_conditions.proofs.condition_list.ConditionList.+expressions.Goals as goal
 
--- the derived order tells what differs apart
-same : (x y : TermId) → eq_by_cmp (cmp-value).it x y ≡ true → x ≡ y
-same x y e = search rules
-
 pub list_expression-returns-then-contains : goal.list_expression-returns-then-contains
 list_expression-returns-then-contains t c =
-    walked_before c.args.terms.now (eq_by_cmp (cmp-value).it) same c.args.self.now c.args.e c.args.line c.requires.list (sym c.contains.ensures ∙ c.if-contains.true)
+    walked_before c.args.terms.now c.args.self.now c.args.e c.args.line c.requires.list (sym c.contains.ensures ∙ c.if-contains.true)
 
 pub list_expression-returns : goal.list_expression-returns
 list_expression-returns t c =
-    walked_now c.args.terms.now (eq_by_cmp (cmp-value).it) same c.args.self.now c.list_parts.new.self _ c.args.e c.args.line c.in_ok-list_parts.ensures refl refl c.in_ok-insert.ensures.keys
+    walked_now c.args.terms.now c.args.self.now c.list_parts.new.self _ c.args.e c.args.line c.in_ok-list_parts.ensures refl refl c.in_ok-insert.ensures.others
 
 pub list_parts-list_expression-requires : goal.list_parts-list_expression-requires
 list_parts-list_expression-requires t c =

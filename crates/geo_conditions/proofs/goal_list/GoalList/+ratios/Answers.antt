@@ -1,9 +1,6 @@
-use Rattle.std.proofs.Common.{◌≡◌, true, refl, sym, ap, subst, [], ◌∙◌, arith, rules}
+use Rattle.std.proofs.Common.{◌≡◌, refl, sym, ap, subst, [], ◌∙◌, arith}
 use Rattle.std.proofs.lemmas.Result.{on_ok_weaker}
 use Rattle.std.specs.Prelude.{List}
-use Rattle.std.specs.Ordering.{eq_by_cmp}
-use Rattle.geo_points.specs.contracts.ids.TermIdOrd.TheImpl.{cmp-value}
-use Rattle.geo_points.specs.declared.ids.TermId.{TermId}
 use Rattle.geo_program.specs.declared.statements.Statement.{Statement}
 use Rattle.geo_terms.specs.declared.nodes.Node.TheVariants as node
 use Rattle.geo_terms.specs.Stores.{tree_of, trees_of}
@@ -14,17 +11,13 @@ use Rattle.geo_conditions.proofs.KeptConditions.{addition_parts, division_parts,
 use Rattle.geo_conditions.proofs.KeptGoals.{leaf_goals, lists_none, lists_tree, walked_before, walked_now}
 use Rattle.geo_conditions.proofs.goal_list.GoalList.+ratios.Goals as goal
 
--- the derived order tells what differs apart
-same : (x y : TermId) → eq_by_cmp (cmp-value).it x y ≡ true → x ≡ y
-same x y e = search rules
-
 pub list_ratios-returns-then-contains : goal.list_ratios-returns-then-contains
 list_ratios-returns-then-contains t c =
-    walked_before c.args.terms.now (eq_by_cmp (cmp-value).it) same c.args.self.now c.args.e c.requires.list (sym c.contains.ensures ∙ c.if-contains.true)
+    walked_before c.args.terms.now c.args.self.now c.args.e c.requires.list (sym c.contains.ensures ∙ c.if-contains.true)
 
 pub list_ratios-returns : goal.list_ratios-returns
 list_ratios-returns t c =
-    walked_now c.args.terms.now (eq_by_cmp (cmp-value).it) same c.args.self.now c.list_parts.new.self _ c.args.e c.in_ok-list_parts.ensures refl c.in_ok-insert.ensures.keys
+    walked_now c.args.terms.now c.args.self.now c.list_parts.new.self _ c.args.e c.in_ok-list_parts.ensures refl c.in_ok-insert.ensures.others
 
 pub list_parts-list_ratios-requires : goal.list_parts-list_ratios-requires
 list_parts-list_ratios-requires t c =
