@@ -12,8 +12,8 @@ use Rattle.frac_laws.specs.declared.frac.FracTooLarge.{FracTooLarge}
 use Rattle.frac_laws.specs.Numbers.{IsNumber}
 use Rattle.geo_place.specs.Reckonings.{Overflows, Reckoning, known, ◌⊖◌}
 use Rattle.geo_place.specs.declared.placed.At.{At}
-use Rattle.geo_figure.specs.declared.bounds.Bounds.{Bounds}
-use Rattle.geo_figure.specs.declared.bounds.Frame.{Frame}
+use Rattle.geo_figure.specs.declared.bounds.CoordinateBounds.{CoordinateBounds}
+use Rattle.geo_figure.specs.declared.bounds.PictureFrame.{PictureFrame}
 use Rattle.geo_figure.specs.declared.cells.Cell.{Cell}
 use Rattle.geo_figure.specs.declared.errors.DrawError.{DrawError}
 use Rattle.geo_figure.specs.declared.errors.DrawError.TheVariants.{NoMemory, TooLarge}
@@ -37,7 +37,7 @@ kept_right xs ys h = All-from_recursion Kept ys (each_back Kept xs ys (recursion
 
 -- BOUNDS
 
-module _ (bounds : Bounds) (xs : List Fraction) (a : Fraction) (n : xs ≢ []) where
+module _ (bounds : CoordinateBounds) (xs : List Fraction) (a : Fraction) (n : xs ≢ []) where
   two_kept : (ys : List Fraction) → Kept (known a ⊖ known (least ys)) → Kept (known a ⊖ known (greatest ys)) → AreKept (differences ys a)
   two_kept [] p q = All-from_recursion Kept [] tt
   two_kept (y ∷ ys) p q = All-from_recursion Kept (differences (y ∷ ys) a) (p, (q, tt))
@@ -50,7 +50,7 @@ module _ (bounds : Bounds) (xs : List Fraction) (a : Fraction) (n : xs ≢ []) w
   second_refused [] n r k = n refl
   second_refused (y ∷ ys) n r k = (recursion_from_All Kept (differences (y ∷ ys) a) k).1.0 r
 
-  pub wider_found : (L G : Result Frac FracTooLarge) → IsLesser (least xs) a L → IsGreater (greatest xs) a G → (r : Result Bounds FracTooLarge)
+  pub wider_found : (L G : Result Frac FracTooLarge) → IsLesser (least xs) a L → IsGreater (greatest xs) a G → (r : Result CoordinateBounds FracTooLarge)
       → IfOk r (λ b. (L ≡ Ok b.least) × (G ≡ Ok b.greatest)) → (IsErr r → IsErr L ⊎ IsErr G) → AreWider xs a r
   wider_found L G l g (Ok b) ok err =
       let p = subst (λ z. IsLesser (least xs) a z) ok.0 l in
@@ -83,7 +83,7 @@ module _ (at : At) (points : List At) where
   alone : (t : DrawTurn) → (FitsNumbers t → ⊥) → t.line ≡ at.line → Stop (t ∷ []) at.line
   alone t h l = record { before = []; turn = t; after = []; parts = refl; passed = tt; refused = h; same_line = l }
 
-  pub frame_found : (X Y : Result Bounds FracTooLarge) → AreWider (map x_of points) (x_of at) X → AreWider (map y_of points) (y_of at) Y → (r : Result Frame DrawError)
+  pub frame_found : (X Y : Result CoordinateBounds FracTooLarge) → AreWider (map x_of points) (x_of at) X → AreWider (map y_of points) (y_of at) Y → (r : Result PictureFrame DrawError)
       → IfOk r (λ f. (X ≡ Ok f.x) × (Y ≡ Ok f.y)) → IfErr r (λ e. (e ≡ TooLarge at.line) × (IsErr X ⊎ IsErr Y)) → IsWiderFrame points at r
   frame_found X Y x y (Ok f) ok err =
       let p = subst (λ z. AreWider (map x_of points) (x_of at) z) ok.0 x in
@@ -99,11 +99,11 @@ module _ (at : At) (points : List At) where
       (alone turn (λ k. y (kept_right (differences (map x_of points) (x_of at)) (differences (map y_of points) (y_of at)) k)) refl)
   frame_found (Ok b) (Ok d) x y (Err e) ok err = absurd (⊎_elim (λ z. no_err b z) (λ z. no_err d z) err.1)
     where
-      no_err : (r : Bounds) → IsErr {E = FracTooLarge} (Ok r) → ⊥
+      no_err : (r : CoordinateBounds) → IsErr {E = FracTooLarge} (Ok r) → ⊥
       no_err r h = let z : false ≡ true = h in cc
 
 -- a first point
-pub first_frame : (at : At) (f : Frame) → IsFrame f (at ∷ []) → (points : List At) → points ≡ [] → IsWiderFrame points at (Ok f)
+pub first_frame : (at : At) (f : PictureFrame) → IsFrame f (at ∷ []) → (points : List At) → points ≡ [] → IsWiderFrame points at (Ok f)
 first_frame at f h [] e = (h, All-from_recursion Kept [] tt)
 first_frame at f h (p ∷ ps) e = cc
 
@@ -190,11 +190,11 @@ module _ (points : List At) (k : ℕ) (at : At) (l : k < length points) (e : at 
   turns_more = bounds_append [] before (at ∷ [])
 
   -- the frame of one point more
-  pub record NextFrame (f : Frame) : Type 0 where
+  pub record NextFrame (f : PictureFrame) : Type 0 where
     pub frame : (take (k + 1) points ≢ []) × IsFrame f (take (k + 1) points)
     pub passed : AllByRecursion FitsNumbers (bound_turns [] (take (k + 1) points))
 
-  pub frame_next : (f : Frame) → IsWiderFrame before at (Ok f) → AllByRecursion FitsNumbers (bound_turns [] before) → NextFrame f
+  pub frame_next : (f : PictureFrame) → IsWiderFrame before at (Ok f) → AllByRecursion FitsNumbers (bound_turns [] before) → NextFrame f
   frame_next f h p = record {
     frame = subst (λ (ps : List At). (ps ≢ []) × IsFrame f ps) (sym more) (some before, h.0);
     passed =

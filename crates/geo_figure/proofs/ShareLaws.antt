@@ -17,7 +17,7 @@ use Rattle.geo_points.proofs.Ratios.{null-true}
 use Rattle.geo_points.proofs.Zeros.{same_of_minus}
 use Rattle.geo_place.specs.Reckonings.{Overflows, IsResult, Reckoning, number}
 use Rattle.geo_place.proofs.ResultLaws.{same_of}
-use Rattle.geo_figure.specs.declared.bounds.Bounds.{Bounds}
+use Rattle.geo_figure.specs.declared.bounds.CoordinateBounds.{CoordinateBounds}
 use Rattle.geo_figure.specs.Bounds.{greatest, least}
 use Rattle.geo_figure.specs.Drawing.{are_level, share, shares}
 use Rattle.geo_figure.specs.Inner.{AreBounds, AreKept}
@@ -53,7 +53,7 @@ floor_is r a h =
     (sym (unsigned_abs-mul r.num (pos a.denominator)) ∙ ap unsigned_abs h.crossed ∙ unsigned_abs-mul a.numerator r.den)
 
 -- LEVEL COORDINATES
-module _ (b : Bounds) (xs : List Fraction) (h : AreBounds b xs) where
+module _ (b : CoordinateBounds) (xs : List Fraction) (h : AreBounds b xs) where
   same_bounds : IsSameNumber b.least b.greatest → Same (greatest xs) (least xs)
   unfolding fraction_of
   same_bounds s =

@@ -5,8 +5,8 @@ use Rattle.ring_laws.specs.Fraction.{Fraction}
 use Rattle.frac_laws.specs.declared.frac.Frac.{Frac}
 use Rattle.frac_laws.specs.declared.frac.FracTooLarge.{FracTooLarge}
 use Rattle.frac_laws.specs.Numbers.{IsNumber}
-use Rattle.geo_figure.specs.declared.bounds.Bounds.{Bounds}
-use Rattle.geo_figure.specs.declared.bounds.Frame.{Frame}
+use Rattle.geo_figure.specs.declared.bounds.CoordinateBounds.{CoordinateBounds}
+use Rattle.geo_figure.specs.declared.bounds.PictureFrame.{PictureFrame}
 use Rattle.geo_figure.specs.declared.cells.Cell.{Cell}
 use Rattle.geo_figure.specs.declared.errors.DrawError.{DrawError}
 use Rattle.geo_figure.specs.declared.errors.DrawError.TheVariants.{NoMemory, TooLarge}
@@ -31,12 +31,12 @@ Stops turns (TooLarge line) = Stop turns line
 Stops turns NoMemory = Unit {0}
 
 -- these are the least and the greatest of the numbers
-pub record AreBounds (b : Bounds) (xs : List Fraction) : Type 0 where
+pub record AreBounds (b : CoordinateBounds) (xs : List Fraction) : Type 0 where
   pub least : IsNumber b.least (least xs)
   pub greatest : IsNumber b.greatest (greatest xs)
 
 -- these are the bounds of the points' coordinates
-pub record IsFrame (f : Frame) (points : List At) : Type 0 where
+pub record IsFrame (f : PictureFrame) (points : List At) : Type 0 where
   pub x : AreBounds f.x (map x_of points)
   pub y : AreBounds f.y (map y_of points)
 
@@ -55,17 +55,17 @@ abbrev pub AreKept : List Reckoning → Type 0
 AreKept es = All (λ e. Overflows e → ⊥) es
 
 -- what comes of the bounds of some numbers and one more
-abbrev pub AreWider : List Fraction → Fraction → Result Bounds FracTooLarge → Type 0
+abbrev pub AreWider : List Fraction → Fraction → Result CoordinateBounds FracTooLarge → Type 0
 AreWider xs a (Ok b) = AreBounds b (xs ++ a ∷ []) × AreKept (differences xs a)
 AreWider xs a (Err refusal) = AreKept (differences xs a) → ⊥
 
 -- what comes of the frame of some points and one more
-abbrev pub IsWiderFrame : List At → At → Result Frame DrawError → Type 0
+abbrev pub IsWiderFrame : List At → At → Result PictureFrame DrawError → Type 0
 IsWiderFrame points a (Ok f) = IsFrame f (points ++ a ∷ []) × FitsNumbers (bound_turn points a)
 IsWiderFrame points a (Err e) = Stops (bound_turn points a ∷ []) e
 
 -- the frame of points, if there are any
-abbrev pub IsFrameOf : Option Frame → List At → Type 0
+abbrev pub IsFrameOf : Option PictureFrame → List At → Type 0
 IsFrameOf None points = points ≡ []
 IsFrameOf (Some f) points = (points ≢ []) × IsFrame f points
 

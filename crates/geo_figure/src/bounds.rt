@@ -17,7 +17,7 @@ use geo_place::{At, difference_of};
 
 /// The least and the greatest of some numbers.
 #[derive(Clone, Copy)]
-pub struct Bounds {
+pub struct CoordinateBounds {
     /// The least.
     pub least: Frac,
     /// The greatest.
@@ -26,11 +26,11 @@ pub struct Bounds {
 
 /// The bounds of both coordinates of some points.
 #[derive(Clone, Copy)]
-pub struct Frame {
+pub struct PictureFrame {
     /// Those of the first coordinates.
-    pub x: Bounds,
+    pub x: CoordinateBounds,
     /// Those of the second coordinates.
-    pub y: Bounds,
+    pub y: CoordinateBounds,
 }
 
 /// The first coordinate of a point.
@@ -50,10 +50,10 @@ pub fn y_of(at: &At) -> Frac
 }
 
 /// The bounds of one number.
-fn bounds_of_one(x: Frac) -> Bounds
+fn bounds_of_one(x: Frac) -> CoordinateBounds
     ensures { (a : Fraction) → IsNumber x a → AreBounds result (a ∷ []) }
 {
-    Bounds {
+    CoordinateBounds {
         least: x,
         greatest: x,
     }
@@ -93,18 +93,18 @@ fn greater_of(greatest: Frac, x: Frac) -> Result<Frac, FracTooLarge>
 fn bounds_from(
     least: Result<Frac, FracTooLarge>,
     greatest: Result<Frac, FracTooLarge>,
-) -> Result<Bounds, FracTooLarge>
+) -> Result<CoordinateBounds, FracTooLarge>
     ensures bounds { IfOk result (λ b. (least ≡ Ok b.least) × (greatest ≡ Ok b.greatest)) }
     ensures refused { IsErr result → IsErr least ⊎ IsErr greatest }
 {
     match (least, greatest) {
-        (Ok(least), Ok(greatest)) => Ok(Bounds { least, greatest }),
+        (Ok(least), Ok(greatest)) => Ok(CoordinateBounds { least, greatest }),
         _ => Err(FracTooLarge),
     }
 }
 
 /// The bounds of some numbers and one more.
-fn wider(bounds: Bounds, x: Frac) -> Result<Bounds, FracTooLarge>
+fn wider(bounds: CoordinateBounds, x: Frac) -> Result<CoordinateBounds, FracTooLarge>
     ensures { (xs : List Fraction) (a : Fraction) → xs ≢ [] → AreBounds bounds xs
         → IsNumber x a → AreWider xs a result }
 {
@@ -113,22 +113,22 @@ fn wider(bounds: Bounds, x: Frac) -> Result<Bounds, FracTooLarge>
 
 /// The frame of the bounds of both coordinates. A refusal is told with the line.
 fn frame_from(
-    x: Result<Bounds, FracTooLarge>,
-    y: Result<Bounds, FracTooLarge>,
+    x: Result<CoordinateBounds, FracTooLarge>,
+    y: Result<CoordinateBounds, FracTooLarge>,
     line: u64,
-) -> Result<Frame, DrawError>
+) -> Result<PictureFrame, DrawError>
     ensures frame { IfOk result (λ f. (x ≡ Ok f.x) × (y ≡ Ok f.y)) }
     ensures refused { IfErr result (λ e.
         (e ≡ DrawError.TooLarge line) × (IsErr x ⊎ IsErr y)) }
 {
     match (x, y) {
-        (Ok(x), Ok(y)) => Ok(Frame { x, y }),
+        (Ok(x), Ok(y)) => Ok(PictureFrame { x, y }),
         _ => Err(DrawError::TooLarge { line }),
     }
 }
 
 /// The frame of some points and one more.
-fn wider_frame(frame: &Frame, at: &At) -> Result<Frame, DrawError>
+fn wider_frame(frame: &PictureFrame, at: &At) -> Result<PictureFrame, DrawError>
     requires { IsDrawable at.now }
     ensures { (points : List At) → points ≢ [] → IsFrame frame.now points
         → IsWiderFrame points at.now result }
@@ -139,18 +139,18 @@ fn wider_frame(frame: &Frame, at: &At) -> Result<Frame, DrawError>
 }
 
 /// The frame of one point.
-fn frame_of_one(at: &At) -> Frame
+fn frame_of_one(at: &At) -> PictureFrame
     requires { IsDrawable at.now }
     ensures { IsFrame result (at.now ∷ []) }
 {
-    Frame {
+    PictureFrame {
         x: bounds_of_one(x_of(at)),
         y: bounds_of_one(y_of(at)),
     }
 }
 
 /// The frame of some points, if there are any, and one more.
-fn next_frame(frame: Option<Frame>, at: &At) -> Result<Frame, DrawError>
+fn next_frame(frame: Option<PictureFrame>, at: &At) -> Result<PictureFrame, DrawError>
     requires { IsDrawable at.now }
     ensures { (points : List At) → IsFrameOf frame points → IsWiderFrame points at.now result }
 {
@@ -161,7 +161,7 @@ fn next_frame(frame: Option<Frame>, at: &At) -> Result<Frame, DrawError>
 }
 
 /// The frame of points, if there are any, found point by point.
-pub fn frame_of(points: &[At]) -> Result<Option<Frame>, DrawError>
+pub fn frame_of(points: &[At]) -> Result<Option<PictureFrame>, DrawError>
     requires { All IsDrawable points.now }
     ensures frame { IfOk result (λ f. IsFrameOf f points.now) }
     ensures passed { OnOk result (AllByRecursion FitsNumbers (bound_turns [] points.now)) }

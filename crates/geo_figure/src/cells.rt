@@ -10,7 +10,7 @@ ghost use Rattle.geo_place.specs.declared.placed.At.{At};
 ghost use Rattle.geo_figure.specs.Drawing.{FitsNumbers, draw_turns, share_turn};
 ghost use Rattle.geo_figure.specs.Inner.{AreBounds, IsCellOf, IsFrame, IsStep, Stops, cell_at};
 
-use crate::bounds::{Bounds, Frame, frame_of, x_of, y_of};
+use crate::bounds::{CoordinateBounds, PictureFrame, frame_of, x_of, y_of};
 use crate::errors::DrawError;
 use frac_laws::{Frac, FracTooLarge};
 use geo_place::{At, difference_of, product_of, quotient_of};
@@ -36,7 +36,7 @@ fn floor(share: Frac) -> u128
 }
 
 /// The step in which a number lies, where the greatest lies this many steps from the least.
-fn step_of(last: i128, bounds: Bounds, x: Frac) -> Result<u128, FracTooLarge>
+fn step_of(last: i128, bounds: CoordinateBounds, x: Frac) -> Result<u128, FracTooLarge>
     requires { unsigned_abs last < 2 ^ 127 }
     ensures { (n : ℕ) (xs : List Fraction) (a : Fraction) → last ≡ pos n → AreBounds bounds xs
         → IsNumber x a → IsStep n xs a result }
@@ -76,7 +76,7 @@ fn cell_from(
 }
 
 /// The cell of a point.
-fn cell_of(frame: &Frame, at: &At) -> Result<Cell, DrawError>
+fn cell_of(frame: &PictureFrame, at: &At) -> Result<Cell, DrawError>
     requires { IsDrawable at.now }
     ensures { (points : List At) → IsFrame frame.now points → IsCellOf points at.now result }
 {
@@ -86,7 +86,7 @@ fn cell_of(frame: &Frame, at: &At) -> Result<Cell, DrawError>
 }
 
 /// The cells of points in this frame, in order.
-fn cells_in(alloc: Global, frame: &Frame, points: &[At]) -> Result<Vec<Cell>, DrawError>
+fn cells_in(alloc: Global, frame: &PictureFrame, points: &[At]) -> Result<Vec<Cell>, DrawError>
     requires { All IsDrawable points.now }
     ensures cells { IfOk result (λ cells. (all : List At) → IsFrame frame.now all
         → cells.items ≡ map (cell_at all) points.now) }

@@ -9,7 +9,7 @@ use crate::cells::Cell;
 use geo_points::NoMemory;
 
 /// The byte of a place, where one more point stands.
-fn one_more(mark: Option<u8>, letter: u8) -> u8
+fn mark_with(mark: Option<u8>, letter: u8) -> u8
     ensures { (cells : List Cell) (c : Cell) → IsMark mark cells → c.letter ≡ letter
         → result ≡ cell_mark (cells ++ c ∷ []) }
 {
@@ -21,13 +21,13 @@ fn one_more(mark: Option<u8>, letter: u8) -> u8
 
 /// The byte of a place in the picture: `.` where no point stands, the letter where one does, and
 /// `*` where several do.
-fn mark(cells: &[Cell], column: u128, line: u128) -> u8
+fn mark_in(cells: &[Cell], column: u128, line: u128) -> u8
     ensures { result ≡ cell_mark (filter (is_cell column line) cells.now) }
 {
     let mut found = None;
     for cell in cells {
         if cell.column == column && cell.line == line {
-            found = Some(one_more(found, cell.letter));
+            found = Some(mark_with(found, cell.letter));
         }
     }
     found.unwrap_or(b'.')
@@ -38,7 +38,7 @@ fn push_line(out: &mut Vec<u8>, cells: &[Cell], line: u128) -> Result<(), NoMemo
     ensures { OnOk result (out.new.items ≡ out.old.items ++ cell_line cells.now line) }
 {
     for column in 0..41 {
-        out.push(mark(cells, column, line))?;
+        out.push(mark_in(cells, column, line))?;
     }
     out.push(b'\n')?;
     Ok(())

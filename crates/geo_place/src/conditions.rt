@@ -1,7 +1,7 @@
 //! The conditions and the goals of a program, tested at the points that are placed so far.
 
-ghost use Rattle.std.specs.Prelude.{◌≡◌, ◌≢◌, ◌<◌, ◌≤◌, ◌+◌, ◌^◌, ◌⊎◌, ℕ, All, IfErr, IfOk, OnOk};
-ghost use Rattle.std.specs.Prelude.{Some, length, pos, slice_get};
+ghost use Rattle.std.specs.Prelude.{◌≡◌, ◌≢◌, ◌<◌, ◌≤◌, ◌+◌, ◌^◌, ◌⊎◌, ℕ, All, IfErr, IfOk};
+ghost use Rattle.std.specs.Prelude.{IsErrOf, OnOk, Some, length, pos, slice_get};
 ghost use Rattle.std.specs.List.{AllByRecursion};
 ghost use Rattle.std.specs.Bool.{MatchBool};
 ghost use Rattle.geo_place.specs.Inner.{FailsItem, FirstFails, GoalsCome, IsItemMet, IsItemNull};
@@ -17,7 +17,8 @@ use geo_terms::Terms;
 /// The error of a condition, by its number, counted from 0. A number that does not fit is answered
 /// by NoMemory.
 fn unmet(number: usize) -> PlaceError
-    ensures { result ≡ PlaceError.NoMemory ⊎ (result ≡ PlaceError.Unmet (number + 1)) }
+    ensures told { result ≡ PlaceError.NoMemory ⊎ (result ≡ PlaceError.Unmet (number + 1)) }
+    ensures few { number < 4294967295 → result ≢ PlaceError.NoMemory }
 {
     if number < u32::MAX as usize {
         PlaceError::Unmet(number as u32 + 1)
@@ -43,6 +44,7 @@ fn test_condition(
     requires { item.now.term.0 < length terms.now }
     ensures met { OnOk result (IsItemMet sketch.now terms.now item.now) }
     ensures fails { IfErr result (FailsItem sketch.now terms.now item.now (number + 1)) }
+    ensures few { number < 4294967295 → ¬ IsErrOf result PlaceError.NoMemory }
 {
     match sketch.term(terms, item.term) {
         Ok(value) => {
@@ -66,6 +68,7 @@ pub fn test_conditions(
     requires few { earlier + length items.now < 2 ^ 63 }
     ensures met { OnOk result (AllByRecursion (IsItemMet sketch.now terms.now) items.now) }
     ensures fails { IfErr result (FirstFails sketch.now terms.now items.now earlier) }
+    ensures few { earlier + length items.now ≤ 4294967295 → ¬ IsErrOf result PlaceError.NoMemory }
 {
     for (k, item) in items.iter().enumerate() {
         test_condition(sketch, terms, item, earlier + k)?;

@@ -1,7 +1,8 @@
 //! The evaluation of a program, command by command.
 
 ghost use Rattle.std.specs.Prelude.{◌≡◌, ◌<◌, ◌≤◌, ◌+◌, ◌-◌, ◌*◌, ◌^◌, [], ℕ, All, IfErr, IfOk};
-ghost use Rattle.std.specs.Prelude.{OnOk, Some, drop, length, pos, slice_get, slice_index_or};
+ghost use Rattle.std.specs.Prelude.{IsErrOf, OnOk, Some, drop, length, pos, slice_get};
+ghost use Rattle.std.specs.Prelude.{slice_index_or};
 ghost use Rattle.std.specs.Prelude.{unsigned_abs};
 ghost use Rattle.ring_laws.specs.Fraction.{whole};
 ghost use Rattle.frac_laws.specs.Numbers.{IsNumber};
@@ -78,6 +79,7 @@ fn told(at: &Position, line: u64) -> Result<Triple, PlaceError>
     ensures triple { IfOk result (λ t. IsTripleOf t (point_at at.now)) }
     ensures fits { OnOk result (IsTriplePast (point_at at.now) → ⊥) }
     ensures stops { IfErr result (IsTripleStop at.now line) }
+    ensures memory { ¬ IsErrOf result PlaceError.NoMemory }
 {
     match triple_of(at) {
         Ok(triple) => Ok(triple),

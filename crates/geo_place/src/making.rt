@@ -1,8 +1,8 @@
 //! The points that the steps of a program make.
 
 ghost use Rattle.std.specs.Prelude.{◌≡◌, ◌<◌, ◌≤◌, ◌+◌, ◌-◌, ◌*◌, ◌^◌, ◌∷◌, ◌⊎◌, [], All, IfErr};
-ghost use Rattle.std.specs.Prelude.{IfOk, OnOk, Some, drop, length, pos, slice_get, slice_index_or};
-ghost use Rattle.std.specs.Prelude.{take, unsigned_abs};
+ghost use Rattle.std.specs.Prelude.{IfOk, IsErrOf, OnOk, Some, drop, length, pos, slice_get};
+ghost use Rattle.std.specs.Prelude.{slice_index_or, take, unsigned_abs};
 ghost use Rattle.std.specs.List.{AllByRecursion};
 ghost use Rattle.geo_lowering.specs.Lowering.{steps_of};
 ghost use Rattle.geo_lowering.specs.StepForms.{StepForm, step_form};
@@ -43,6 +43,7 @@ fn position_of(reckoned: Reckoned, line: u64) -> Result<Position, PlaceError>
         → IsResult s.x spot.x × IsResult s.y spot.y) }
     ensures refused { IfErr result (λ e. (spot : Spot) → AreResults reckoned spot
         → (e ≡ PlaceError.TooLarge line) × (Overflows spot.x ⊎ Overflows spot.y)) }
+    ensures memory { ¬ IsErrOf result PlaceError.NoMemory }
 {
     match (reckoned.x, reckoned.y) {
         (Ok(x), Ok(y)) => Ok(Position { x, y }),
@@ -80,6 +81,7 @@ impl Sketch {
             (make (length self.now.points.items) (step_form problem.now.steps.nodes step)) → ⊥) }
         ensures stops { IfErr result (Stops run (at_line line
             (make (length self.now.points.items) (step_form problem.now.steps.nodes step) ∷ []))) }
+        ensures memory { ¬ IsErrOf result PlaceError.NoMemory }
     {
         let terms = problem.steps.look();
         let y = PointId(self.points.len() as u32);

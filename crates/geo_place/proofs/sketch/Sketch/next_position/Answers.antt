@@ -25,7 +25,7 @@ returns-in_default g c =
     (λ e. c.in_default.not-Point (form_free nodes c.args.step e)) c.args.line c.len.result
     (c.len.ensures ∙ c.args.self.now.points.ok.0) c.step.result a c.position_of.result c.position_of.ensures.position
     c.position_of.ensures.refused in
-    record { position = r.position; passed = r.passed; stops = r.stops }
+    record { position = r.position; passed = r.passed; stops = r.stops; memory = c.position_of.ensures.memory }
 
 pub returns-in-Point-clause-position : goal.returns-in-Point-clause-position
 returns-in-Point-clause-position g c =
