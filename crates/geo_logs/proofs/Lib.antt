@@ -20,3 +20,12 @@ pub mod OneNext
 pub mod OneEnd
 pub mod OneList
 pub mod Charges
+pub mod WalkPlaces
+pub mod StepsFollowed
+pub mod ChainsWalked
+pub mod ClosedChains
+pub mod WalksBack
+pub mod WalksBegun
+pub mod WalksStand
+pub mod LogsWalked
+pub mod OneWalk

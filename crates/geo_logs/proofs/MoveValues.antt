@@ -13,7 +13,7 @@ use Rattle.ring_laws.specs.Fraction.{Fraction, Same, whole, times, IsNonzero}
 use Rattle.geo_points.specs.Placements.{Placement}
 use Rattle.ring_laws.proofs.Fractions.{fractions}
 use Rattle.ring_laws.proofs.Quotients.{cancel_fraction, same_of_zero, zero_of_same}
-use Rattle.geo_poly.specs.declared.replacement.Row.{Row}
+use Rattle.geo_poly.specs.declared.rows.Row.{Row}
 use Rattle.geo_poly.specs.declared.variables.Var.{Var}
 use Rattle.geo_poly.specs.Monomials.{Powers}
 use Rattle.geo_poly.specs.Polynomials.{Summands, product_of}

@@ -11,3 +11,6 @@ pub mod Ends
 pub mod Judging
 pub mod Placements
 pub mod Laws
+pub mod Behind
+pub mod Walks
+pub mod WalkLaws

@@ -4,7 +4,7 @@ use Rattle.ring_laws.specs.Powers.{power}
 use Rattle.ring_laws.proofs.Fractions.{fractions}
 use Rattle.ring_laws.specs.Fraction.{Same, IsNonzero, times}
 use Rattle.geo_points.specs.Placements.{Placement}
-use Rattle.geo_poly.specs.declared.replacement.Row.{Row}
+use Rattle.geo_poly.specs.declared.rows.Row.{Row}
 use Rattle.geo_poly.specs.declared.variables.Var.{Var}
 use Rattle.geo_poly.specs.Replace.{IsBounded}
 use Rattle.geo_poly.specs.Values.{variable_value}

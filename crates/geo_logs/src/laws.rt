@@ -4,6 +4,8 @@ ghost use Rattle.geo_logs.specs.Laws.{AcceptedGoalsAreZero, AcceptedSampleRealis
 ghost use Rattle.geo_logs.specs.Laws.{ChainsNameNoLater, ChargesAreSpent, DefinedLogIsUnique};
 ghost use Rattle.geo_logs.specs.Laws.{ImpossibleIsNeverMet, NoneIsDueAfterCut};
 ghost use Rattle.geo_logs.specs.Laws.{ProversLogIsAccepted, ProversLogIsUnique};
+ghost use Rattle.geo_logs.specs.WalkLaws.{LogsAreWalked, ProversWalkIsUnique, StepsAgree};
+ghost use Rattle.geo_logs.specs.WalkLaws.{WalksAreBeginnings};
 
 /// Where a log is accepted with Proved, each goal's term is 0 in every placement that meets the
 /// steps, wherever it has a value; with False(g) this holds of the goals before goal g.
@@ -53,4 +55,25 @@ pub fn charges_are_spent()
 /// After a cut by the factor of a polynomial no cut is due.
 pub fn none_is_due_after_cut()
     ensures { NoneIsDueAfterCut }
+{}
+
+/// The walk of one line after another takes the steps of chains.
+pub fn steps_agree()
+    ensures { StepsAgree }
+{}
+
+/// Accepted logs, and those of the prover, are what is walked by their rules.
+pub fn logs_are_walked()
+    ensures { LogsAreWalked }
+{}
+
+/// What is walked begins an accepted log, or the prover's, and stands at a place in it until it is
+/// over.
+pub fn walks_are_beginnings()
+    ensures { WalksAreBeginnings }
+{}
+
+/// The prover's rules leave one walk.
+pub fn provers_walk_is_unique()
+    ensures { ProversWalkIsUnique }
 {}

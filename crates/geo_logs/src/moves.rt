@@ -24,7 +24,7 @@ pub struct RowList {
 
 impl Model for RowList {
     ghost use Rattle.std.specs.Prelude.{List};
-    ghost use Rattle.geo_poly.specs.declared.replacement.Row.{Row};
+    ghost use Rattle.geo_poly.specs.declared.rows.Row.{Row};
 
     ghost Value = { List Row };
 
