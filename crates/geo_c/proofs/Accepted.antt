@@ -1,8 +1,8 @@
 -- The text of an accepted log is told.
 use Rattle.std.proofs.Common.{◌≡◌, ℕ, ◌≤◌, inl, inr, List, length}
-use Rattle.geo_answers.specs.declared.status.Status.{Status}
-use Rattle.geo_answers.specs.Due.{IsAcceptedText}
-use Rattle.geo_answers.specs.Status.{verdict_status}
+use Rattle.proof_printer.specs.declared.status.Status.{Status}
+use Rattle.proof_printer.specs.Due.{IsAcceptedText}
+use Rattle.proof_printer.specs.Status.{verdict_status}
 use Rattle.geo_c.specs.Answers.{AnswersCall, TellsDue}
 use Rattle.geo_c.specs.declared.answers.Answer.{Answer}
 use Rattle.geo_c.specs.Due.{IsCheckDue}

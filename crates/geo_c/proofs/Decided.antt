@@ -1,15 +1,15 @@
 -- What follows from a verdict that is told, and from a proof that is written.
 use Rattle.std.proofs.Common.{◌≡◌, inl, inr, ℕ, ◌<◌, ◌≤◌, ◌^◌, List, sym, ◌∙◌, ap, subst, arith}
-use Rattle.geo_answers.specs.Due.{Due, IsAcceptedDue, IsLogDue, IsReadableDue, accepted_text}
-use Rattle.geo_answers.specs.Status.{refusal_status, status_at, status_number}
-use Rattle.geo_answers.proofs.Numbers.{accepted_log, ending_of_numbers, not_a_verdict, refusal_number, verdict_of_numbers}
+use Rattle.proof_printer.specs.Due.{Due, IsAcceptedDue, IsLogDue, IsReadableDue, accepted_text}
+use Rattle.proof_printer.specs.Status.{refusal_status, status_at, status_number}
+use Rattle.proof_printer.proofs.StatusNumbers.{accepted_log, ending_of_numbers, not_a_verdict, refusal_number, verdict_of_numbers}
 use Rattle.geo_c.specs.Answers.{AnswersCall, HandsBack, TellsDue, TellsVerdict}
 use Rattle.geo_c.specs.Calls.{ChecksBytes, PrintsBytes, ProvesBytes}
 use Rattle.geo_c.specs.declared.answers.Answer.{Answer}
 use Rattle.geo_c.specs.Due.{IsCheckDue, IsProofDue, IsTextDue}
 use Rattle.geo_logs.specs.Ends.{ends_with}
 use Rattle.geo_program.specs.Programs.{source_of}
-use Rattle.geo_prover.specs.Proving.{IsLogOf}
+use Rattle.log_checker.specs.ProgramLogs.{IsLogOf}
 use Rattle.log_checker.specs.Accepted.{Accepts}
 use Rattle.log_checker.proofs.AcceptedBytes.{accepted_bytes_mean}
 use Rattle.proof_log.specs.declared.log.Verdict.{Verdict}

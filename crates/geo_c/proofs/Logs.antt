@@ -1,10 +1,10 @@
 -- The log of a program that was written into memory.
 use Rattle.std.proofs.Common.{◌≡◌, ℕ, List, [], ◌++◌, Some, ap, ◌∙◌}
 use Rattle.geo_base.specs.Devices.{Grows}
-use Rattle.geo_answers.specs.declared.status.Status.{Status}
-use Rattle.geo_answers.specs.declared.status.Status.TheVariants.{Spent, TooLarge, TooLong}
-use Rattle.geo_answers.specs.Due.{IsLogDue}
-use Rattle.geo_answers.specs.Status.{verdict_status}
+use Rattle.proof_printer.specs.declared.status.Status.{Status}
+use Rattle.proof_printer.specs.declared.status.Status.TheVariants.{Spent, TooLarge, TooLong}
+use Rattle.proof_printer.specs.Due.{IsLogDue}
+use Rattle.proof_printer.specs.Status.{verdict_status}
 use Rattle.geo_logs.specs.Ends.{ends_by, ends_with, too_long}
 use Rattle.geo_logs.specs.Moves.{spent, too_large}
 use Rattle.geo_poly.specs.declared.limits.Which.{Which}

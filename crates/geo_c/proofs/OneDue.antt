@@ -1,9 +1,9 @@
 -- One thing is due at most for bytes, so it is what is told.
 use Rattle.std.proofs.Common.{◌≡◌, ◌⊎◌, ℕ, inl, inr, List, [], sym, subst, ◌∙◌, arith}
-use Rattle.geo_answers.specs.declared.status.Status.TheVariants.{Syntax}
-use Rattle.geo_answers.specs.Due.{Due, IsAcceptedDue, IsLogDue, IsReadableDue}
-use Rattle.geo_answers.specs.Status.{refusal_status}
-use Rattle.geo_answers.proofs.OneDue.{one_accepted_due, one_log_due, one_readable_due}
+use Rattle.proof_printer.specs.declared.status.Status.TheVariants.{Syntax}
+use Rattle.proof_printer.specs.Due.{Due, IsAcceptedDue, IsLogDue, IsReadableDue}
+use Rattle.proof_printer.specs.Status.{refusal_status}
+use Rattle.proof_printer.proofs.OneDue.{one_accepted_due, one_log_due, one_readable_due}
 use Rattle.geo_c.specs.Answers.{AnswersCall, TellsDue}
 use Rattle.geo_c.specs.declared.answers.Answer.{Answer}
 use Rattle.geo_c.specs.Due.{IsBareRefusalDue, IsBareRejectionDue, IsCheckDue, IsDueWithin, IsProofDue, IsTextDue}

@@ -1,11 +1,11 @@
 -- Logs and programs that are refused.
 use Rattle.std.proofs.Common.{◌≡◌, ℕ, ◌≤◌, length, inl, inr, List, [], refl, subst}
-use Rattle.geo_answers.specs.Due.{Due, SpellsNone}
-use Rattle.geo_answers.specs.Status.{error_status}
+use Rattle.proof_printer.specs.Due.{Due, SpellsNone}
+use Rattle.proof_printer.specs.Status.{error_status}
 use Rattle.geo_c.specs.Answers.{AnswersCall, TellsDue}
 use Rattle.geo_c.specs.declared.answers.Answer.{Answer}
-use Rattle.geo_answers.specs.declared.status.Status.{Status}
-use Rattle.geo_answers.specs.declared.status.Status.TheVariants.{Rejected, Spent, Syntax, TooLarge}
+use Rattle.proof_printer.specs.declared.status.Status.{Status}
+use Rattle.proof_printer.specs.declared.status.Status.TheVariants.{Rejected, Spent, Syntax, TooLarge}
 use Rattle.geo_c.specs.Due.{IsBareRejectionDue, IsProofDue}
 use Rattle.geo_lexer.specs.declared.token_types.Fault.{Fault}
 use Rattle.geo_logs.specs.Judging.{rejected, stopped}

@@ -1,8 +1,8 @@
 -- What a call hands back.
 use Rattle.std.specs.Prelude.{◌≡◌, ◌⊎◌, ℕ, List, [], ◌++◌, length, take, drop}
-use Rattle.geo_answers.specs.declared.status.Status.TheVariants.{NoMemory}
-use Rattle.geo_answers.specs.Due.{Due}
-use Rattle.geo_answers.specs.Status.{status_at, status_number, status_reason, verdict_status}
+use Rattle.proof_printer.specs.declared.status.Status.TheVariants.{NoMemory}
+use Rattle.proof_printer.specs.Due.{Due}
+use Rattle.proof_printer.specs.Status.{status_at, status_number, status_reason, verdict_status}
 use Rattle.geo_c.specs.declared.answers.Answer.{Answer}
 use Rattle.proof_log.specs.declared.log.Verdict.{Verdict}
 

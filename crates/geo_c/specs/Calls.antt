@@ -2,7 +2,7 @@
 use Rattle.std.specs.Prelude.{ℕ, List}
 use Rattle.geo_c.specs.Answers.{HandsBack}
 use Rattle.geo_c.specs.declared.answers.Answer.{Answer}
-use Rattle.geo_answers.specs.Due.{accepted_text}
+use Rattle.proof_printer.specs.Due.{accepted_text}
 use Rattle.geo_conditions.specs.Lists.{AreConditionItems, ItemForm}
 use Rattle.geo_lowering.specs.declared.version.Version.TheVariants.{Two}
 use Rattle.geo_program.specs.declared.program_type.Program.{Program}

@@ -1,8 +1,8 @@
 -- What each call is to hand back, and the cause of it. A refusal is told by its numbers alone, without a text.
 use Rattle.std.specs.Prelude.{◌≡◌, ◌⊎◌, ℕ, ◌<◌, ◌≤◌, List, [], length}
-use Rattle.geo_answers.specs.declared.status.Status.TheVariants.{Syntax, TooLong}
-use Rattle.geo_answers.specs.Due.{Due, IsAcceptedDue, IsLogDue, IsReadableDue, SpellsNone}
-use Rattle.geo_answers.specs.Status.{refusal_status}
+use Rattle.proof_printer.specs.declared.status.Status.TheVariants.{Syntax, TooLong}
+use Rattle.proof_printer.specs.Due.{Due, IsAcceptedDue, IsLogDue, IsReadableDue, SpellsNone}
+use Rattle.proof_printer.specs.Status.{refusal_status}
 use Rattle.geo_lexer.specs.declared.token_types.Fault.{Fault}
 use Rattle.geo_logs.specs.Judging.{Refusal}
 use Rattle.log_checker.specs.Judged.{Refuses}

@@ -2,7 +2,7 @@
 ghost use Rattle.std.specs.Prelude.{◌≡◌};
 ghost use Rattle.geo_c.specs.Answers.{TellsDue, filled};
 
-use geo_answers::Status;
+use proof_printer::Status;
 
 /// What a call tells besides its status.
 #[repr(C)]

@@ -1,6 +1,6 @@
 //! The call that checks a log.
 ghost use Rattle.std.specs.Prelude.{◌≡◌, ◌≤◌, ◌⊎◌, ℕ, List, length};
-ghost use Rattle.geo_answers.specs.Due.{Due};
+ghost use Rattle.proof_printer.specs.Due.{Due};
 ghost use Rattle.geo_c.specs.Answers.{AnswersCall, TellsDue, TellsVerdict};
 ghost use Rattle.geo_c.specs.Due.{IsCheckDue};
 ghost use Rattle.geo_c.specs.Calls.{ChecksBytes};
@@ -9,10 +9,10 @@ ghost use Rattle.log_checker.specs.Accepted.{Accepts};
 ghost use Rattle.proof_log.specs.declared.log.Verdict.{Verdict};
 
 use crate::answers::{Answer, tell};
-use geo_answers::{Status, accepted_text};
 use geo_program::Program;
 use log_checker::check;
 use proof_log::Verdict;
+use proof_printer::{Status, accepted_text};
 use std::alloc::Global;
 
 /// The most bytes of a log.

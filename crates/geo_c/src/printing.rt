@@ -1,14 +1,13 @@
 //! The call that writes a log as a proof that a person reads.
 ghost use Rattle.std.specs.Prelude.{◌≡◌, ◌⊎◌};
-ghost use Rattle.geo_answers.specs.Due.{Due};
+ghost use Rattle.proof_printer.specs.Due.{Due};
 ghost use Rattle.geo_c.specs.Answers.{AnswersCall, TellsDue};
 ghost use Rattle.geo_c.specs.Due.{IsTextDue};
 ghost use Rattle.geo_c.specs.Calls.{PrintsBytes};
 
 use crate::answers::{Answer, tell};
 use crate::checking::LOG_LIMIT;
-use geo_answers::Status;
-use proof_printer::text;
+use proof_printer::{Status, text};
 use std::alloc::Global;
 
 /// Checks a log with so many steps, and writes it into the buffer as a proof that a person reads,

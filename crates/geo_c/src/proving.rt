@@ -1,6 +1,6 @@
 //! The call that proves a program.
 ghost use Rattle.std.specs.Prelude.{◌≡◌, ◌≢◌, ◌⊎◌, [], ℕ, List, length};
-ghost use Rattle.geo_answers.specs.Due.{Due, IsLogDue};
+ghost use Rattle.proof_printer.specs.Due.{Due, IsLogDue};
 ghost use Rattle.geo_c.specs.Answers.{AnswersCall, TellsDue, TellsVerdict};
 ghost use Rattle.geo_c.specs.Due.{IsProofDue};
 ghost use Rattle.geo_c.specs.Calls.{ProvesBytes};
@@ -8,11 +8,11 @@ ghost use Rattle.geo_program.specs.Programs.{Spells};
 ghost use Rattle.proof_log.specs.declared.log.Verdict.{Verdict};
 
 use crate::answers::{Answer, tell};
-use geo_answers::Status;
 use geo_base::SureSink;
 use geo_parser::{ParseError, parse};
 use geo_program::Program;
 use geo_prover::{ProveError, prove};
+use proof_printer::Status;
 use std::alloc::Global;
 
 /// The most bytes of a program.
@@ -61,14 +61,14 @@ fn write_log(alloc: Global, text: &[u8], steps: u64, sink: &mut SureSink) -> Sta
         return Status::TooLong;
     }
     match parse(alloc, text) {
-        Ok(program) => prove_program(alloc, &program, steps, sink),
+        Ok(program) => prove_parsed(alloc, &program, steps, sink),
         Err(ParseError::Syntax(fault)) => Status::of_fault(fault),
         Err(ParseError::NoMemory) => Status::NoMemory,
     }
 }
 
 /// Proves a program, and writes its log. A write into memory fails only where memory runs out.
-fn prove_program(alloc: Global, program: &Program, steps: u64, sink: &mut SureSink) -> Status
+fn prove_parsed(alloc: Global, program: &Program, steps: u64, sink: &mut SureSink) -> Status
     requires { sink.old ≡ [] }
     ensures { result ≢ Status.NoMemory → (text : List ℕ) → Spells text program.now
         → IsLogDue steps text (record { text = sink.new; status = result }) }

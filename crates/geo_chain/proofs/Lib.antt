@@ -8,3 +8,13 @@ pub mod DueCuts
 pub mod Replacing
 pub mod KeptPoints
 pub mod Steps
+pub mod Handing
+pub mod Sizing
+pub mod Passing
+pub mod Framing
+pub mod Chaining
+pub mod Listing
+pub mod FirstLines
+pub mod WholeLogs
+pub mod Sampling
+pub mod Again

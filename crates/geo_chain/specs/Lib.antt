@@ -1,2 +1,12 @@
 pub mod NextLines
+pub mod Frames
+pub mod FixedLogs
+pub mod InFrame
+pub mod Sizes
+pub mod Causes
+pub mod Written
+pub mod Parts
+pub mod Halting
+pub mod Tasks
+pub mod FirstLines
 pub mod Inner

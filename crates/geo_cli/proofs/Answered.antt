@@ -2,9 +2,9 @@
 use Rattle.std.proofs.Common.{◌≡◌, ◌≤◌, List, Option, ℕ, inl, inr, refl, subst, sym}
 use Rattle.geo_cli.specs.declared.order.Command.{Command}
 use Rattle.geo_cli.specs.declared.order.Command.TheVariants.{Bench, Check, Cite, Figure, Place, Text}
-use Rattle.geo_answers.specs.declared.status.Status.{Status}
-use Rattle.geo_answers.specs.declared.status.Status.TheVariants.{TooLong}
-use Rattle.geo_answers.specs.Due.{Due}
+use Rattle.proof_printer.specs.declared.status.Status.{Status}
+use Rattle.proof_printer.specs.declared.status.Status.TheVariants.{TooLong}
+use Rattle.proof_printer.specs.Due.{Due}
 use Rattle.geo_cli.specs.Due.{IsBenchDue, IsCommandDue, IsReadDue, IsRefusalDue, due_for, too_long_line}
 use Rattle.geo_cli.specs.Inner.Answering.{AnswersCommand, AnswersDue, AnswersInput, ReadsProgram, ReadsWhole}
 use Rattle.geo_cli.specs.Input.{IsInput, IsLong, Takes, limit_of, log_limit, program_limit}

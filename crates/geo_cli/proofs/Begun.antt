@@ -1,8 +1,8 @@
 -- What a run of `discover` has begun where writing failed or memory ran out.
 use Rattle.std.proofs.Common.{◌≡◌, ℕ, ◌≤◌, inl, inr, List, Option, length, take, sym, subst, arith}
 use Rattle.std.proofs.lemmas.List.{take_all}
-use Rattle.geo_answers.specs.declared.status.Status.{Status}
-use Rattle.geo_answers.specs.Due.{Due}
+use Rattle.proof_printer.specs.declared.status.Status.{Status}
+use Rattle.proof_printer.specs.Due.{Due}
 use Rattle.geo_base.specs.Devices.{Grows}
 use Rattle.geo_cli.specs.declared.order.Command.TheVariants.{Discover}
 use Rattle.geo_cli.specs.declared.order.Order.{Order}

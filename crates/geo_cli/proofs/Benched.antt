@@ -2,10 +2,10 @@
 use Rattle.std.proofs.Common.{◌≡◌, ℕ, ◌-◌, List, [], ◌∷◌, ◌++◌, length, codes, Option, Result, Ok, Err, refl, sym, ap, subst, ◌∙◌, arith}
 use Rattle.std.specs.Prelude.{IfOk}
 use Rattle.geo_cli.specs.declared.reports.Report.{Report}
-use Rattle.geo_answers.specs.declared.status.Status.TheVariants.{TooLong}
+use Rattle.proof_printer.specs.declared.status.Status.TheVariants.{TooLong}
 use Rattle.geo_cli.specs.Due.{IsBenchDue, count_line}
 use Rattle.geo_cli.specs.Inner.Telling.{TellsEnding, stop_report, summary_report}
-use Rattle.geo_answers.specs.Status.{stop_status}
+use Rattle.proof_printer.specs.Status.{stop_status}
 use Rattle.geo_logs.specs.Ends.{ends_by, ends_with, stop_line, too_long}
 use Rattle.geo_logs.specs.Moves.{Stop}
 use Rattle.geo_lowering.specs.Lowering.{IsLowered, LoweredForm}

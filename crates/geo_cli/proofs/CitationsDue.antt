@@ -3,7 +3,7 @@ use Rattle.std.proofs.Common.{◌≡◌, ℕ, inl, inr, List, Result}
 use Rattle.std.specs.Prelude.{IfOk}
 use Rattle.geo_points.specs.declared.memory.NoMemory.{NoMemory}
 use Rattle.geo_cli.specs.declared.reports.Report.{Report}
-use Rattle.geo_answers.specs.declared.status.Status.TheVariants.{Done}
+use Rattle.proof_printer.specs.declared.status.Status.TheVariants.{Done}
 use Rattle.geo_cli.specs.declared.order.Command.TheVariants.{Cite}
 use Rattle.geo_cli.specs.Due.{TellsUncited, cited_line, due_for}
 use Rattle.geo_cli.specs.Inner.Telling.{due_of}

@@ -11,11 +11,11 @@ use Rattle.geo_place.specs.declared.placed.Placed.{Placed}
 use Rattle.geo_cli.specs.declared.order.Command.{Command}
 use Rattle.geo_cli.specs.declared.order.Command.TheVariants.{Bench, Discover, Prove}
 use Rattle.geo_cli.specs.declared.order.Order.{Order}
-use Rattle.geo_answers.specs.declared.status.Status.{Status}
-use Rattle.geo_answers.specs.declared.status.Status.TheVariants as status
-use Rattle.geo_answers.specs.Due.{Due, IsAcceptedDue, IsLogDue}
-use Rattle.geo_answers.specs.Status.{ended_status, ending_status, status_at, status_number, stop_status, verdict_status}
-use Rattle.geo_answers.proofs.Numbers.{accepted_log, ending_of_numbers, not_a_verdict, verdict_of_numbers}
+use Rattle.proof_printer.specs.declared.status.Status.{Status}
+use Rattle.proof_printer.specs.declared.status.Status.TheVariants as status
+use Rattle.proof_printer.specs.Due.{Due, IsAcceptedDue, IsLogDue}
+use Rattle.proof_printer.specs.Status.{ended_status, ending_status, status_at, status_number, stop_status, verdict_status}
+use Rattle.proof_printer.proofs.StatusNumbers.{accepted_log, ending_of_numbers, not_a_verdict, verdict_of_numbers}
 use Rattle.geo_cli.specs.Due.{IsBenchDue, IsCalledFor, IsDueForValues, IsFixedDue}
 use Rattle.geo_cli.specs.Due.{IsSearchDue}
 use Rattle.geo_cli.specs.Due.{IsRestDue, TellsAnswer, TellsDrawing, TellsFixed, TellsUncited, bench_text, fixed_line, usage_line}
@@ -38,7 +38,7 @@ use Rattle.geo_logs.specs.Moves.{Stop, spent, too_large}
 use Rattle.geo_program.specs.Programs.{source_of}
 use Rattle.geo_program.specs.WellFormed.{Source}
 use Rattle.geo_program.proofs.Propositions.{program_well_formed}
-use Rattle.geo_prover.specs.Proving.{IsLogOf}
+use Rattle.log_checker.specs.ProgramLogs.{IsLogOf}
 use Rattle.log_checker.specs.Accepted.{Accepts}
 use Rattle.log_checker.proofs.AcceptedBytes.{accepted_bytes_mean}
 use Rattle.proof_log.specs.declared.log.Line.{Line}

@@ -3,8 +3,8 @@ use Rattle.std.proofs.Common.{◌≡◌, ℕ, inl, inr, List, Option, ap, subst,
 use Rattle.geo_base.specs.Devices.{Grows}
 use Rattle.geo_cli.specs.declared.order.Command.TheVariants.{Discover}
 use Rattle.geo_cli.specs.declared.order.Order.{Order}
-use Rattle.geo_answers.specs.declared.status.Status.{Status}
-use Rattle.geo_answers.specs.Due.{Due}
+use Rattle.proof_printer.specs.declared.status.Status.{Status}
+use Rattle.proof_printer.specs.Due.{Due}
 use Rattle.geo_cli.specs.Due.{IsCommandDue, IsDue, IsReadDue, due_for}
 use Rattle.geo_cli.specs.Input.{program_limit}
 use Rattle.geo_cli.specs.Run.{Ends, IsAnswered, IsStopStatus, SearchesInPart}

@@ -24,10 +24,10 @@ use Rattle.geo_program.specs.declared.program_type.Program.{Program}
 use Rattle.geo_cli.specs.declared.order.Command.{Command}
 use Rattle.geo_cli.specs.declared.order.Command.TheVariants.{Bench, Check, Cite, Discover, Figure, Fixed, Place, Prove, Text}
 use Rattle.geo_cli.specs.declared.order.Order.{Order}
-use Rattle.geo_answers.specs.declared.status.Status.TheVariants.{Done, Syntax}
-use Rattle.geo_answers.specs.Due.{Due}
-use Rattle.geo_answers.specs.Status.{ending_status, refusal_status, verdict_status}
-use Rattle.geo_answers.proofs.OneDue.{one_accepted_due, one_log_due, one_readable_due}
+use Rattle.proof_printer.specs.declared.status.Status.TheVariants.{Done, Syntax}
+use Rattle.proof_printer.specs.Due.{Due}
+use Rattle.proof_printer.specs.Status.{ending_status, refusal_status, verdict_status}
+use Rattle.proof_printer.proofs.OneDue.{one_accepted_due, one_log_due, one_readable_due}
 use Rattle.geo_cli.specs.Due.{IsBenchDue, IsCalledFor, IsCommandCall, IsCommandDue, IsDue, due_for}
 use Rattle.geo_cli.specs.Due.{IsDueForValues, IsFixedDue, IsReadCall, IsReadDue}
 use Rattle.geo_cli.specs.Due.{IsRefusalDue, IsRejectionDue, IsRestDue, IsSearchDue, IsValuesDue, TellsAnswer, TellsDrawing, TellsUncited}

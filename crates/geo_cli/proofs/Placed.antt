@@ -4,11 +4,11 @@ use Rattle.std.specs.Prelude.{Bool, true, false, ℤ, Result, Ok, Err}
 use Rattle.geo_base.specs.Devices.{Grows}
 use Rattle.geo_base.specs.declared.texts.Text.{Text as Written}
 use Rattle.geo_cli.specs.declared.order.Command.TheVariants.{Discover}
-use Rattle.geo_answers.specs.declared.status.Status.{Status}
-use Rattle.geo_answers.specs.declared.status.Status.TheVariants as status
-use Rattle.geo_answers.specs.Due.{Due}
-use Rattle.geo_answers.proofs.Numbers.{refusal_number}
-use Rattle.geo_answers.specs.Status.{ended_status, ending_status, refusal_status, status_number, stop_status, verdict_status}
+use Rattle.proof_printer.specs.declared.status.Status.{Status}
+use Rattle.proof_printer.specs.declared.status.Status.TheVariants as status
+use Rattle.proof_printer.specs.Due.{Due}
+use Rattle.proof_printer.proofs.StatusNumbers.{refusal_number}
+use Rattle.proof_printer.specs.Status.{ended_status, ending_status, refusal_status, status_number, stop_status, verdict_status}
 use Rattle.geo_cli.specs.Due.{IsDueForValues, IsRestDue, IsSearchDue, TellsAnswer, TellsDrawing}
 use Rattle.geo_cli.specs.Due.{TellsFixed}
 use Rattle.geo_cli.specs.Input.{IsInput, program_limit}

@@ -2,9 +2,9 @@
 use Rattle.std.proofs.Common.{◌≡◌, Err, List, Ok, Option, Result, ℕ, ap, inl, inr, length, refl}
 use Rattle.geo_cli.specs.declared.order.Command.{Command}
 use Rattle.geo_cli.specs.declared.order.Command.TheVariants.{Discover, Fixed, Prove}
-use Rattle.geo_answers.specs.declared.status.Status.{Status}
-use Rattle.geo_answers.specs.declared.status.Status.TheVariants.{Spent, TooLarge, TooLong}
-use Rattle.geo_answers.specs.Status.{ending_status, stop_status, verdict_status}
+use Rattle.proof_printer.specs.declared.status.Status.{Status}
+use Rattle.proof_printer.specs.declared.status.Status.TheVariants.{Spent, TooLarge, TooLong}
+use Rattle.proof_printer.specs.Status.{ending_status, stop_status, verdict_status}
 use Rattle.geo_cli.specs.Due.{TellsFixed, due_for, fixed_line, stop_due}
 use Rattle.geo_cli.specs.Inner.Answering.{AnswersDue, ReadsProgram}
 use Rattle.geo_cli.specs.Run.{IsCutShort}

@@ -5,8 +5,8 @@ use Rattle.std.specs.Prelude.{IfErr, IfOk, OnErr, OnOk}
 use Rattle.std.proofs.lemmas.List.Elements.{Contains-append_right, Contains-get_or}
 use Rattle.geo_base.specs.Devices.{HasEnded, Loses}
 use Rattle.geo_base.specs.Lines.{ReaderState, handed_out, open_bytes, text_of}
-use Rattle.geo_base.specs.declared.lines.NextLine.{NextLine}
-use Rattle.geo_base.specs.declared.lines.NextLine.TheVariants.{Line, Rest}
+use Rattle.geo_base.specs.declared.next_line.NextLine.{NextLine}
+use Rattle.geo_base.specs.declared.next_line.NextLine.TheVariants.{Line, Rest}
 use Rattle.geo_base.specs.declared.reading.ReadError.{ReadError}
 use Rattle.geo_base.proofs.DeviceLemmas.{Loses-append}
 use Rattle.geo_cli.specs.Input.{IsLong, Takes, log_limit}

@@ -2,10 +2,10 @@
 use Rattle.std.proofs.Common.{◌≡◌, ℕ, inl, List, Option, Result, Ok}
 use Rattle.std.proofs.Common.{Err, refl, subst}
 use Rattle.std.specs.Prelude.{IfErr, IfOk}
-use Rattle.geo_answers.specs.declared.status.Status.{Status}
-use Rattle.geo_answers.specs.declared.status.Status.TheVariants.{Done}
-use Rattle.geo_answers.specs.Due.{Due, IsAcceptedText}
-use Rattle.geo_answers.specs.Status.{error_status, verdict_status}
+use Rattle.proof_printer.specs.declared.status.Status.{Status}
+use Rattle.proof_printer.specs.declared.status.Status.TheVariants.{Done}
+use Rattle.proof_printer.specs.Due.{Due, IsAcceptedText}
+use Rattle.proof_printer.specs.Status.{error_status, verdict_status}
 use Rattle.geo_cli.specs.declared.order.Command.TheVariants.{Check, Text}
 use Rattle.geo_cli.specs.Due.{IsRejectionDue, due_for}
 use Rattle.geo_cli.specs.Inner.Answering.{AnswersDue}

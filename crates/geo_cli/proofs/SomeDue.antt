@@ -5,9 +5,9 @@ use Rattle.std.proofs.lemmas.Bool.Decides.{nat_tests}
 use Rattle.geo_cli.specs.declared.order.Command.{Command}
 use Rattle.geo_cli.specs.declared.order.Command.TheVariants.{Bench, Check, Cite, Discover, Figure, Fixed, Place, Prove, Text}
 use Rattle.geo_cli.specs.declared.order.Order.{Order}
-use Rattle.geo_answers.specs.declared.status.Status.TheVariants.{Done, NotInstance, Rejected, Syntax, TooLong}
-use Rattle.geo_answers.specs.Due.{Due, accepted_text}
-use Rattle.geo_answers.specs.Status.{ending_status, refusal_status, verdict_status}
+use Rattle.proof_printer.specs.declared.status.Status.TheVariants.{Done, NotInstance, Rejected, Syntax, TooLong}
+use Rattle.proof_printer.specs.Due.{Due, accepted_text}
+use Rattle.proof_printer.specs.Status.{ending_status, refusal_status, verdict_status}
 use Rattle.geo_cli.specs.Due.{HasInput, IsBenchDue, IsCalledFor, IsCommandCall, due_for}
 use Rattle.geo_cli.specs.Due.{IsReadCall, IsRefusalDue, IsRejectionDue, TellsFixed, TellsUncited, bench_text, cited_line, fault_due, fixed_line, no_instance_line, refusal_line}
 use Rattle.geo_cli.specs.Due.{rejected_line, stop_due, syntax_line, too_long_line}

@@ -1,8 +1,8 @@
 -- Something is called for where a program is to be placed, or drawn.
 use Rattle.std.proofs.Common.{◌≡◌, ℕ, ◌+◌, ◌≤◌, ◌⊎◌, inl, inr, Bool, true, false, ℤ, List, length, Result, Ok, Err, refl, ap, ◌∙◌, arith}
 use Rattle.std.proofs.lemmas.List.{length-append}
-use Rattle.geo_answers.specs.declared.status.Status.TheVariants.{Done, Unmet as NotMet}
-use Rattle.geo_answers.specs.Due.{Due}
+use Rattle.proof_printer.specs.declared.status.Status.TheVariants.{Done, Unmet as NotMet}
+use Rattle.proof_printer.specs.Due.{Due}
 use Rattle.geo_base.specs.declared.texts.Text.{Text}
 use Rattle.geo_cli.specs.Due.{IsDueForValues, IsRestDue, IsValuesDue, TellsAnswer, TellsPoints, fault_due, large_due, unmet_line}
 use Rattle.geo_cli.specs.Input.{program_limit}

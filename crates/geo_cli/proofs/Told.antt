@@ -3,11 +3,11 @@ use Rattle.std.proofs.Common.{◌≡◌, inl, inr, ℕ, ◌<◌, ◌≤◌, Bool
 use Rattle.geo_base.specs.Devices.{Grows}
 use Rattle.geo_cli.specs.declared.order.Command.{Command}
 use Rattle.geo_cli.specs.declared.order.Command.TheVariants.{Bench, Check, Cite, Discover, Figure, Fixed, Place, Prove, Text}
-use Rattle.geo_answers.specs.declared.status.Status.{Status}
-use Rattle.geo_answers.specs.declared.status.Status.TheVariants as status
-use Rattle.geo_answers.specs.Due.{Due}
-use Rattle.geo_answers.proofs.Numbers.{refusal_number}
-use Rattle.geo_answers.specs.Status.{status_number, verdict_status}
+use Rattle.proof_printer.specs.declared.status.Status.{Status}
+use Rattle.proof_printer.specs.declared.status.Status.TheVariants as status
+use Rattle.proof_printer.specs.Due.{Due}
+use Rattle.proof_printer.proofs.StatusNumbers.{refusal_number}
+use Rattle.proof_printer.specs.Status.{status_number, verdict_status}
 use Rattle.geo_cli.specs.Due.{IsBenchDue, IsCommandDue, IsDue, IsDueForValues, IsRefusalDue, IsRejectionDue, due_for}
 use Rattle.geo_cli.specs.Input.{IsInput, limit_of, program_limit}
 use Rattle.geo_cli.specs.Orders.{IsOrder}

@@ -1,9 +1,9 @@
 -- A run that answers that a line of the cited program asks what is not so.
 use Rattle.std.proofs.Common.{◌≡◌, ℕ, ◌<◌, List, Option, sym, ◌∙◌, ap, subst, arith}
-use Rattle.geo_answers.specs.declared.status.Status.{Status}
-use Rattle.geo_answers.specs.declared.status.Status.TheVariants as status
-use Rattle.geo_answers.specs.Due.{Due}
-use Rattle.geo_answers.specs.Status.{status_number}
+use Rattle.proof_printer.specs.declared.status.Status.{Status}
+use Rattle.proof_printer.specs.declared.status.Status.TheVariants as status
+use Rattle.proof_printer.specs.Due.{Due}
+use Rattle.proof_printer.specs.Status.{status_number}
 use Rattle.geo_cli.specs.Due.{TellsUncited}
 use Rattle.geo_cli.specs.Input.{IsInput, log_limit}
 use Rattle.geo_cli.specs.Run.{CitesNone}

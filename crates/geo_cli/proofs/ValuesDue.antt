@@ -3,7 +3,7 @@ use Rattle.std.proofs.Common.{◌≡◌, ℕ, ◌+◌, Bool, ℤ, inl, inr, List
 use Rattle.std.specs.Prelude.{IfOk}
 use Rattle.geo_points.specs.declared.memory.NoMemory.{NoMemory}
 use Rattle.geo_cli.specs.declared.reports.Report.{Report}
-use Rattle.geo_answers.specs.Due.{Due, SpellsNone}
+use Rattle.proof_printer.specs.Due.{Due, SpellsNone}
 use Rattle.geo_cli.specs.Due.{IsRestDue, IsValuesDue, TellsAnswer, fault_due}
 use Rattle.geo_cli.specs.Inner.Telling.{due_of}
 use Rattle.geo_cli.specs.Values.{values_line}

@@ -3,9 +3,9 @@
 use Rattle.std.specs.Prelude.{◌≡◌, ◌⊎◌, ℕ, Bool, true, false, List, [], ◌∷◌, length, take, Option}
 use Rattle.std.specs.List.{AllByRecursion}
 use Rattle.geo_base.specs.Devices.{Grows, HasRisen}
-use Rattle.geo_answers.specs.declared.status.Status.{Status}
-use Rattle.geo_answers.specs.declared.status.Status.TheVariants.{NoMemory, ReadFault, Spent, TooLarge, TooLong, WriteFault}
-use Rattle.geo_answers.specs.Due.{Due, SpellsNone}
+use Rattle.proof_printer.specs.declared.status.Status.{Status}
+use Rattle.proof_printer.specs.declared.status.Status.TheVariants.{NoMemory, ReadFault, Spent, TooLarge, TooLong, WriteFault}
+use Rattle.proof_printer.specs.Due.{Due, SpellsNone}
 use Rattle.geo_cli.specs.Due.{IsDue, bench_text, cited_line, fixed_line, syntax_line, too_long_line}
 use Rattle.geo_cli.specs.Input.{IsInput, IsLong, log_limit, program_limit}
 use Rattle.geo_cli.specs.Status.{search_status}
@@ -31,7 +31,7 @@ use Rattle.geo_program.specs.Programs.{Spells, source_of}
 use Rattle.geo_program.specs.Relations.{with_statement}
 use Rattle.geo_program.specs.WellFormed.{Source}
 use Rattle.geo_prover.specs.Bench.{IsBench}
-use Rattle.geo_prover.specs.Proving.{IsLogOf}
+use Rattle.log_checker.specs.ProgramLogs.{IsLogOf}
 use Rattle.log_checker.specs.Accepted.{Accepts, BytesMean}
 use Rattle.log_checker.specs.Laws.{IsDecided}
 use Rattle.proof_log.specs.declared.log.Line.{Line}

@@ -1,7 +1,7 @@
 -- The status that tells how a search for relations ends.
-use Rattle.geo_answers.specs.declared.status.Status.{Status}
-use Rattle.geo_answers.specs.declared.status.Status.TheVariants.{Done, Impossible, TooLong}
-use Rattle.geo_answers.specs.Status.{ended_status}
+use Rattle.proof_printer.specs.declared.status.Status.{Status}
+use Rattle.proof_printer.specs.declared.status.Status.TheVariants.{Done, Impossible, TooLong}
+use Rattle.proof_printer.specs.Status.{ended_status}
 use Rattle.geo_discover.specs.FoundTexts.{SearchEnd, cut, found, impossible, open_by}
 
 -- how a search ends; an open candidate is told as the end of its log

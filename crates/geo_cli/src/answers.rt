@@ -3,10 +3,10 @@ ghost use Rattle.std.specs.Prelude.{◌≡◌, ◌≢◌, ◌≤◌, ◌++◌, I
 ghost use Rattle.geo_cli.specs.Due.{count_line, rejected_line, syntax_line};
 ghost use Rattle.geo_cli.specs.Run.{IsAnswered};
 
-use geo_answers::{Status, push_numbered};
 use geo_base::{PutError, Sink, Text, push_decimal, write_all};
 use geo_lexer::Fault;
 use geo_points::NoMemory;
+use proof_printer::{Status, push_numbered};
 use std::alloc::Global;
 
 /// The line for words that are no command.

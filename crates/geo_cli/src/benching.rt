@@ -7,13 +7,13 @@ ghost use Rattle.geo_program.specs.Programs.{source_of};
 
 use crate::answers::{answer, push_count};
 use crate::reports::{Report, report_stop};
-use geo_answers::{Status, push_verdict};
 use geo_base::{Sink, SureSink, Text};
 use geo_lowering::lower;
 use geo_points::NoMemory;
 use geo_program::Program;
 use geo_prover::{ProveError, Summary, bench_program, prove};
 use proof_log::Line;
+use proof_printer::{Status, push_verdict};
 use std::alloc::Global;
 
 /// Proves the generated program of this number with so many steps, and writes its number, its

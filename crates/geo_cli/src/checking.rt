@@ -9,13 +9,13 @@ ghost use Rattle.geo_program.specs.Programs.{source_of};
 ghost use Rattle.log_checker.specs.Accepted.{Accepts};
 
 use crate::answers::{TOO_LONG, answer};
-use crate::judging::judge;
+use crate::judging::judge_input;
 use crate::refusing::refuse;
-use geo_answers::{Status, accepted_text};
 use geo_base::{ReadError, Sink, Source};
 use geo_program::Program;
 use log_checker::{Accepted, CheckError};
 use proof_log::Verdict;
+use proof_printer::{Status, accepted_text};
 use std::alloc::Global;
 
 /// Reads a log to its end, judges it with so many steps, and tells its program, its conditions and
@@ -38,7 +38,7 @@ pub fn run_check<S: Source, K: Sink>(
     ensures sink_heard { result ≢ Status.WriteFault
         → K.faults sink.new ≡ K.faults sink.old }
 {
-    match judge(alloc, steps, source) {
+    match judge_input(alloc, steps, source) {
         Ok(judged) => report(alloc, judged, sink),
         Err(ReadError::TooLong) => answer(sink, TOO_LONG, Status::TooLong),
         Err(ReadError::ReadFault) => Status::ReadFault,
@@ -57,13 +57,18 @@ fn report<K: Sink>(alloc: Global, judged: Result<Accepted, CheckError>, sink: &m
         → K.faults sink.new ≡ K.faults sink.old }
 {
     match judged {
-        Ok(accepted) => accept(alloc, &accepted.program, accepted.verdict, sink),
+        Ok(accepted) => report_accepted(alloc, &accepted.program, accepted.verdict, sink),
         Err(error) => refuse(alloc, error, sink),
     }
 }
 
 /// Tells an accepted log.
-fn accept<K: Sink>(alloc: Global, program: &Program, verdict: Verdict, sink: &mut K) -> Status
+fn report_accepted<K: Sink>(
+    alloc: Global,
+    program: &Program,
+    verdict: Verdict,
+    sink: &mut K,
+) -> Status
     ensures answers { (steps : ℕ) (bytes : List ℕ)
         → Accepts bytes steps (source_of program.now) verdict
         → AnswersDue (due_for Check steps bytes) (K.faults sink.old) (K.faults sink.new)

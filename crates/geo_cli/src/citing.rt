@@ -7,11 +7,11 @@ ghost use Rattle.geo_cli.specs.declared.order.Command.TheVariants.{Cite};
 
 use crate::answers::{answer, rejected_line};
 use crate::reports::{Report, report_fault, report_stop};
-use geo_answers::{Status, push_numbered};
 use geo_base::{Sink, Text};
 use geo_library::{CiteError, cite};
 use geo_points::NoMemory;
 use proof_log::Line;
+use proof_printer::{Status, push_numbered};
 use std::alloc::Global;
 
 /// Writes the statement that the bytes cite with so many steps, or tells why they cite none.

@@ -5,10 +5,10 @@ ghost use Rattle.geo_cli.specs.Inner.Answering.{AnswersDue};
 ghost use Rattle.geo_cli.specs.declared.order.Command.TheVariants.{Discover};
 ghost use Rattle.geo_program.specs.Programs.{Spells, program_text};
 
-use geo_answers::Status;
 use geo_base::Sink;
 use geo_discover::{DiscoverError, discover};
 use geo_program::Program;
+use proof_printer::Status;
 use std::alloc::Global;
 
 /// Searches the figure of a program, and writes its relations, each candidate with so many steps.

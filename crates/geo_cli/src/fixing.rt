@@ -3,17 +3,17 @@ ghost use Rattle.std.specs.Prelude.{◌≡◌, ◌≢◌, ◌≤◌, IfOk};
 ghost use Rattle.geo_cli.specs.Due.{TellsFixed, fixed_line};
 ghost use Rattle.geo_cli.specs.Inner.Answering.{AnswersDue};
 ghost use Rattle.geo_cli.specs.Inner.Telling.{due_of};
-ghost use Rattle.geo_answers.specs.Status.{verdict_status};
+ghost use Rattle.proof_printer.specs.Status.{verdict_status};
 ghost use Rattle.geo_program.specs.Programs.{source_of};
 
 use crate::answers::answer;
 use crate::reports::{Report, report_stop};
-use geo_answers::{Status, push_verdict};
 use geo_base::{Sink, Text};
 use geo_discover::{FixedError, fixed};
 use geo_points::NoMemory;
 use geo_program::Program;
 use proof_log::{Line, Verdict};
+use proof_printer::{Status, push_verdict};
 use std::alloc::Global;
 
 /// Writes the verdict of the program's log in that frame, with so many steps, or the line of its

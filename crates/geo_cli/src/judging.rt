@@ -13,7 +13,7 @@ pub const LOG_LIMIT: u64 = 67_108_864;
 
 /// Reads a log to its end, and judges it. Behind a refusal it reads on, for an input that fails or
 /// is too long is no log.
-pub fn judge<S: Source>(
+pub fn judge_input<S: Source>(
     alloc: Global,
     steps: u64,
     source: &mut S,

@@ -5,9 +5,10 @@
 //! origin; or writes the relations of its figure, each with its log.
 #![tactic(auto)]
 
+use crate::memory::keep_freed_memory;
 use crate::run::run;
-use geo_answers::Status;
 use geo_base::{ReaderSource, WriterSink};
+use proof_printer::Status;
 use std::env;
 use std::io::ErrorKind;
 use std::process::ExitCode;
@@ -19,6 +20,7 @@ mod citing;
 mod discovering;
 mod fixing;
 mod judging;
+mod memory;
 mod numbers;
 mod order;
 mod placing;
@@ -33,6 +35,7 @@ mod tests;
 mod values;
 
 fn main(rt: HostRuntime) -> ExitCode {
+    keep_freed_memory(rt.alloc());
     let status = match words_of(&rt) {
         Ok(words) => {
             let mut source = ReaderSource::new(rt.stdin());

@@ -11,7 +11,6 @@ ghost use Rattle.geo_place.specs.Placing.{IsDrawable};
 use crate::answers::answer;
 use crate::reports::{Report, report_fault};
 use crate::values::split_values;
-use geo_answers::{Status, push_numbered};
 use geo_base::{Sink, Text};
 use geo_figure::{DrawError, draw};
 use geo_parser::{ParseError, parse};
@@ -20,6 +19,7 @@ use geo_points::NoMemory;
 use geo_poly::Which;
 use geo_program::Program;
 use proof_log::{Line, write_line};
+use proof_printer::{Status, push_numbered};
 use std::alloc::Global;
 
 /// Writes the points of a program at the values before it, as text or drawn, or tells why there are

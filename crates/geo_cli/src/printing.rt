@@ -6,9 +6,8 @@ ghost use Rattle.geo_cli.specs.declared.order.Command.TheVariants.{Text};
 
 use crate::answers::answer;
 use crate::refusing::refuse;
-use geo_answers::Status;
 use geo_base::Sink;
-use proof_printer::text;
+use proof_printer::{Status, text};
 use std::alloc::Global;
 
 /// Checks a log with so many steps, and writes it as a proof that a person reads, or the line at

@@ -1,17 +1,17 @@
 //! The command `prove`: the log of a program is written.
 ghost use Rattle.std.specs.Prelude.{◌≡◌, ◌≢◌, ◌≤◌, ℕ, List};
-ghost use Rattle.geo_answers.specs.Due.{SpellsNone};
+ghost use Rattle.proof_printer.specs.Due.{SpellsNone};
 ghost use Rattle.geo_cli.specs.Due.{IsRefusalDue, due_for};
 ghost use Rattle.geo_cli.specs.Inner.Answering.{AnswersDue};
 ghost use Rattle.geo_cli.specs.declared.order.Command.TheVariants.{Prove};
 ghost use Rattle.geo_program.specs.Programs.{Spells};
 
 use crate::answers::{answer, syntax_line};
-use geo_answers::Status;
 use geo_base::Sink;
 use geo_lexer::Fault;
 use geo_program::Program;
 use geo_prover::{ProveError, prove};
+use proof_printer::Status;
 use std::alloc::Global;
 
 /// Tells why bytes spell no program.

@@ -14,10 +14,10 @@ use crate::order::Command;
 use crate::placing::place_bytes;
 use crate::printing::print_bytes;
 use crate::proving::{prove_program, refuse};
-use geo_answers::Status;
 use geo_base::{ReadError, Sink, Source, read_all};
 use geo_parser::{ParseError, parse};
 use geo_program::Program;
+use proof_printer::Status;
 use std::alloc::Global;
 
 /// The most bytes of a program, with the line of its values.

@@ -7,11 +7,11 @@ ghost use Rattle.log_checker.specs.Checked.{TellsStop};
 ghost use Rattle.log_checker.specs.Judged.{Refuses};
 
 use crate::answers::{answer, rejected_line};
-use geo_answers::Status;
 use geo_base::{Sink, Text};
 use geo_points::NoMemory;
 use log_checker::CheckError;
 use proof_log::{Line, write_line};
+use proof_printer::Status;
 use std::alloc::Global;
 
 /// Tells why a log is refused.

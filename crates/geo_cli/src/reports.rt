@@ -5,11 +5,11 @@ ghost use Rattle.geo_cli.specs.Inner.Telling.{due_of, stop_report};
 ghost use Rattle.proof_log.specs.Writable.{IsWritable};
 
 use crate::answers::syntax_line;
-use geo_answers::Status;
 use geo_base::Text;
 use geo_lexer::Fault;
 use geo_points::NoMemory;
 use proof_log::{Line, write_line};
+use proof_printer::Status;
 use std::alloc::Global;
 
 /// A text that is to be written, and the status then.

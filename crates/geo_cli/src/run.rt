@@ -1,8 +1,8 @@
 //! A run of the program, over any source and sink.
 ghost use Rattle.std.specs.Prelude.{◌≡◌, ◌≢◌, ◌≤◌, ◌⊎◌, ℕ};
 ghost use Rattle.geo_base.specs.Devices.{Grows, HasRisen};
-ghost use Rattle.geo_answers.specs.Due.{Due};
-ghost use Rattle.geo_answers.specs.Status.{verdict_status};
+ghost use Rattle.proof_printer.specs.Due.{Due};
+ghost use Rattle.proof_printer.specs.Status.{verdict_status};
 ghost use Rattle.geo_cli.specs.Due.{HasInput, IsCalledFor};
 ghost use Rattle.geo_cli.specs.Inner.Answering.{AnswersCommand, HasNumber};
 ghost use Rattle.geo_cli.specs.Enough.{AsksForFirstForm, IsDecisive};
@@ -21,8 +21,8 @@ use crate::benching::run_bench;
 use crate::checking::run_check;
 use crate::order::{Command, Order, order_of};
 use crate::reading::run_reading;
-use geo_answers::Status;
 use geo_base::{Sink, Source};
+use proof_printer::Status;
 use std::alloc::Global;
 
 /// Carries out the command that the words are. For `prove` it reads a program from the source to

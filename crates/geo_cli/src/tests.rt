@@ -1,8 +1,8 @@
 //! Runs over sources and sinks in memory.
 use crate::run::run;
-use geo_answers::Status;
 use geo_base::{MemSink, MemSource};
 use geo_poly::Which;
+use proof_printer::Status;
 use std::process::Abort;
 use std::test::Fail;
 

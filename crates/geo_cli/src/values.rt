@@ -42,7 +42,7 @@ fn next_number(bytes: &[u8]) -> Option<(i128, &[u8])>
 {
     let (run, rest) = split_run(bytes);
     let number = read_decimal(run).ok()?;
-    if is_text_of(&number, run) {
+    if is_canonical(&number, run) {
         Some((number, rest))
     } else {
         None
@@ -78,7 +78,7 @@ fn is_number_byte(byte: u8) -> bool
 }
 
 /// Whether the bytes are the decimal text of the number.
-fn is_text_of(number: &i128, bytes: &[u8]) -> bool
+fn is_canonical(number: &i128, bytes: &[u8]) -> bool
     ensures { IsTrue result ↔ (signed_decimal number.now ≡ bytes.now) }
 {
     Buffer::new().format(*number).as_bytes() == bytes

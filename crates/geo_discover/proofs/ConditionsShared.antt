@@ -19,25 +19,26 @@ use Rattle.geo_program.specs.WellFormed.{Source}
 use Rattle.geo_terms.specs.Constructions.{Construction}
 use Rattle.proof_log.specs.declared.log.Line.{Line}
 use Rattle.proof_log.specs.Lines.{log_text}
-use Rattle.log_maker.specs.declared.errors.ProveError.{ProveError}
-use Rattle.log_maker.specs.declared.errors.ProveError.TheVariants as stopped
-use Rattle.log_maker.specs.declared.frame.Frame.TheVariants.{Full}
-use Rattle.log_maker.specs.declared.size.Size.{Size}
-use Rattle.log_maker.specs.declared.size.Size.TheVariants.{Written}
-use Rattle.log_maker.specs.Halting.{Halts, IsStopped, Passes}
-use Rattle.log_maker.specs.Parts.{Part, goals_part, items_of}
-use Rattle.log_maker.specs.Sizes.{HoldsText}
-use Rattle.log_maker.specs.Tasks.{conditions_before, conditions_from}
-use Rattle.log_maker.specs.Written.{State, Writes, first_state}
-use Rattle.log_maker.specs.declared.findings.Findings.{Findings}
-use Rattle.log_maker.proofs.Passing.{text_length-append}
-use Rattle.geo_prover.proofs.Finishing.{subject_with}
+use Rattle.geo_chain.specs.FirstLines.{program_lines}
+use Rattle.geo_chain.specs.declared.errors.ProveError.{ProveError}
+use Rattle.geo_chain.specs.declared.errors.ProveError.TheVariants as stopped
+use Rattle.geo_chain.specs.declared.frame.Frame.TheVariants.{Full}
+use Rattle.geo_chain.specs.declared.size.Size.{Size}
+use Rattle.geo_chain.specs.declared.size.Size.TheVariants.{Written}
+use Rattle.geo_chain.specs.Halting.{Halts, IsStopped, Passes}
+use Rattle.geo_chain.specs.Parts.{Part, goals_part, items_of}
+use Rattle.geo_chain.specs.Sizes.{HoldsText}
+use Rattle.geo_chain.specs.Tasks.{conditions_before, conditions_from}
+use Rattle.geo_chain.specs.Written.{State, Writes, first_state}
+use Rattle.geo_chain.specs.declared.findings.Findings.{Findings}
+use Rattle.geo_chain.proofs.Passing.{text_length-append}
 use Rattle.geo_discover.specs.declared.figure.Figure.{Figure}
 use Rattle.geo_discover.specs.Inner.Searching.{IsCandidate}
-use Rattle.geo_discover.specs.Inner.Sharing.{AreMet, AreWorked, IsFigureOf, IsStoppedThere, from_conditions, program_lines, stopped_by}
+use Rattle.geo_discover.specs.Inner.Sharing.{AreMet, AreWorked, IsFigureOf, IsStoppedThere, from_conditions, stopped_by}
 use Rattle.geo_discover.proofs.FixedAnswers.{front_count}
 use Rattle.geo_discover.proofs.Fronts.{front_with}
 use Rattle.geo_discover.proofs.Judging.{held_is}
+use Rattle.geo_discover.proofs.OwnLogs.{subject_with}
 
 module _ (problem : Problem) (steps : ℕ) (known : List Var) (ends : List Summands) (no_known : known ≡ []) (no_ends : ends ≡ []) where
   abbrev c : Construction

@@ -11,7 +11,7 @@ use Rattle.area_coords.specs.FreeTable.{area_in_coordinates, difference_in_coord
 use Rattle.fraction_poly.specs.Forms.{integer, piece_of}
 use Rattle.fraction_poly.specs.TableRows.{TableRow, made_row}
 use Rattle.geo_points.specs.declared.ids.PointId.{PointId}
-use Rattle.geo_poly.specs.declared.replacement.Row.{Row}
+use Rattle.geo_poly.specs.declared.rows.Row.{Row}
 use Rattle.geo_poly.specs.declared.variables.Var.{Var}
 use Rattle.geo_poly.specs.declared.variables.Var.TheVariants.{R, S, P, X as Abscissa, Y as Ordinate, T as Number}
 use Rattle.geo_poly.specs.KeptVariables.{AllNumerators}

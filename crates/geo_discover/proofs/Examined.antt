@@ -7,8 +7,8 @@ use Rattle.geo_program.specs.WellFormed.{IsWellFormed, Source}
 use Rattle.proof_log.specs.declared.log.Line.{Line}
 use Rattle.proof_log.specs.Lines.{line_text, log_text}
 use Rattle.proof_log.specs.Writable.{HasNoLineFeed}
-use Rattle.log_maker.specs.declared.errors.ProveError.{ProveError}
-use Rattle.log_maker.specs.declared.errors.ProveError.TheVariants as stopped
+use Rattle.geo_chain.specs.declared.errors.ProveError.{ProveError}
+use Rattle.geo_chain.specs.declared.errors.ProveError.TheVariants as stopped
 use Rattle.geo_discover.specs.declared.errors.DiscoverError.{DiscoverError}
 use Rattle.geo_discover.specs.declared.errors.DiscoverError.TheVariants as error
 use Rattle.geo_discover.specs.declared.examining.Judgement.{Judgement}

@@ -21,8 +21,8 @@ use Rattle.log_checker.specs.Subjects.{source_lines}
 use Rattle.log_checker.proofs.AlikeLogs.{AlikeSubjects, begun_alike, next_line_alike, over, same_over, steps_alike, worked_alike}
 use Rattle.log_checker.proofs.AlikeSteps.{AlikeConstructions, variables_same}
 use Rattle.log_checker.proofs.OneSubject.{alike_subjects}
-use Rattle.log_maker.specs.FixedLogs.{IsFixedChain, IsFixedLog, IsFixedSample, IsStopInFrame, LeadsInFrame}
-use Rattle.log_maker.specs.Frames.{after_step, framed_variables, is_of_first_point}
+use Rattle.geo_chain.specs.FixedLogs.{IsFixedChain, IsFixedLog, IsFixedSample, IsStopInFrame, LeadsInFrame}
+use Rattle.geo_chain.specs.Frames.{after_step, framed_variables, is_of_first_point}
 use Rattle.geo_discover.specs.FixedEnds.{EndsWithVerdict, StopsAtLine}
 use Rattle.geo_discover.specs.Laws.{FixedEndsAgree}
 use Rattle.geo_discover.proofs.OneFixedStop.{fixed_log_unique}

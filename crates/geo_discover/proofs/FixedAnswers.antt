@@ -25,19 +25,20 @@ use Rattle.geo_logs.specs.Moves.{Stop, spent, too_large}
 use Rattle.geo_logs.specs.Places.{Place, before_line, before_sample, before_start, first_lines, in_chain}
 use Rattle.log_checker.specs.Laws.{IsDecided}
 use Rattle.log_checker.specs.Subjects.{IsSubjectOf, source_lines}
-use Rattle.geo_prover.proofs.Finishing.{about, subject_of}
-use Rattle.log_maker.specs.declared.frame.Frame.TheVariants.{Fixed}
-use Rattle.log_maker.specs.declared.size.Size.{Size}
-use Rattle.log_maker.specs.declared.size.Size.TheVariants.{Counted}
-use Rattle.log_maker.specs.FixedLogs.{IsStopInFrame}
-use Rattle.log_maker.specs.declared.errors.ProveError.{ProveError}
-use Rattle.log_maker.specs.declared.errors.ProveError.TheVariants as error
-use Rattle.log_maker.specs.Halting.{Finishes, Halts, IsStopped}
-use Rattle.log_maker.specs.InFrame.{IsNextIn}
-use Rattle.log_maker.specs.Parts.{Part}
-use Rattle.log_maker.specs.Sizes.{IsTakable}
-use Rattle.log_maker.specs.Tasks.{conditions_from}
-use Rattle.log_maker.specs.Written.{State}
+use Rattle.log_checker.specs.Checkers.{subject_of}
+use Rattle.log_checker.proofs.DueProblems.{about}
+use Rattle.geo_chain.specs.declared.frame.Frame.TheVariants.{Fixed}
+use Rattle.geo_chain.specs.declared.size.Size.{Size}
+use Rattle.geo_chain.specs.declared.size.Size.TheVariants.{Counted}
+use Rattle.geo_chain.specs.FixedLogs.{IsStopInFrame}
+use Rattle.geo_chain.specs.declared.errors.ProveError.{ProveError}
+use Rattle.geo_chain.specs.declared.errors.ProveError.TheVariants as error
+use Rattle.geo_chain.specs.Halting.{Finishes, Halts, IsStopped}
+use Rattle.geo_chain.specs.InFrame.{IsNextIn}
+use Rattle.geo_chain.specs.Parts.{Part}
+use Rattle.geo_chain.specs.Sizes.{IsTakable}
+use Rattle.geo_chain.specs.Tasks.{conditions_from}
+use Rattle.geo_chain.specs.Written.{State}
 use Rattle.geo_discover.specs.FixedEnds.{EndsWithVerdict, StopsAtLine}
 use Rattle.geo_discover.specs.Inner.Fixing.{IsFixedStop, fixed_by}
 use Rattle.geo_discover.proofs.Deciding.{fixed_verdicts_decide}
@@ -91,13 +92,13 @@ module _ (p : Source) (problem : Problem) (steps : ℕ) (w : IsWellFormed p) (sm
   c = problem.steps
 
   abbrev subject : Subject
-  subject = subject_of p problem
+  subject = subject_of (2, source_lines p) problem
 
   abbrev whole : Part
   whole = conditions_from Fixed problem 0 [] [] steps
 
   own : IsSubjectOf p subject
-  own = about p problem w is
+  own = about Two p problem is
 
   pub ended : (s t : State) (verdict : Verdict) (left : ℕ) → Finishes whole s t verdict left → EndsWithVerdict p steps verdict
   ended s t verdict left h = record {

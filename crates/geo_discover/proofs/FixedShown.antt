@@ -41,8 +41,8 @@ use Rattle.geo_logs.proofs.MoveValues.{apart, at_variable, nonzero, zero_fractio
 use Rattle.geo_logs.proofs.SampleValues.{IsNonzeroAt, each_nonzero, end_apart}
 use Rattle.geo_logs.proofs.TermVariables.{term_sound}
 use Rattle.log_checker.specs.Shown.{IsShown}
-use Rattle.log_maker.specs.FixedLogs.{IsFixedChain, IsFixedSample}
-use Rattle.log_maker.specs.Frames.{first_point, framed_variables, is_of_first_point}
+use Rattle.geo_chain.specs.FixedLogs.{IsFixedChain, IsFixedSample}
+use Rattle.geo_chain.specs.Frames.{first_point, framed_variables, is_of_first_point}
 use Rattle.geo_discover.proofs.FixedChains.{fixed_elsewhere, fixed_named, fixed_null, fixed_null_on, fixed_polynomial}
 use Rattle.geo_discover.proofs.Origins.{IsAtOrigin, IsElsewhere, origin_stays, x0, y0}
 use Rattle.geo_discover.proofs.WithoutCoordinates.{start_without}

@@ -15,9 +15,10 @@ use Rattle.geo_program.specs.declared.statements.Statement.{Statement}
 use Rattle.geo_program.proofs.Lengths.{length-line_text, lexeme_size}
 use Rattle.proof_log.specs.declared.log.Line.{Line}
 use Rattle.proof_log.specs.declared.log.Line.TheVariants.{Header, Program as ProgramLine}
-use Rattle.log_maker.proofs.Passing.{text_length-append}
+use Rattle.geo_chain.specs.FirstLines.{program_lines}
+use Rattle.geo_chain.proofs.Passing.{text_length-append}
 use Rattle.geo_discover.specs.FoundTexts.{candidate_text}
-use Rattle.geo_discover.specs.Inner.Sharing.{IsFrontOf, program_lines}
+use Rattle.geo_discover.specs.Inner.Sharing.{IsFrontOf}
 
 module _ (p : Source) where
   -- the word and the braces around a statement

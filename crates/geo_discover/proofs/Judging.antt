@@ -13,16 +13,18 @@ use Rattle.proof_log.specs.Lines.{line_text, log_text}
 use Rattle.proof_log.specs.Writable.{AllWritable, HasNoLineFeed}
 use Rattle.proof_log.proofs.NoLineFeeds.{no_line_feed}
 use Rattle.geo_logs.specs.Ends.{Ending, ends_by, ends_with, too_long}
+use Rattle.geo_logs.specs.Logs.{Subject}
 use Rattle.geo_logs.specs.Moves.{spent, too_large}
 use Rattle.log_checker.proofs.WritableLines.{defined_logs_are_writable}
-use Rattle.log_maker.specs.declared.errors.ProveError.{ProveError}
-use Rattle.log_maker.specs.declared.errors.ProveError.TheVariants as stopped
-use Rattle.geo_prover.specs.declared.summary.Summary.{Summary}
-use Rattle.geo_prover.specs.Proving.{Concludes, IsLogOf, WritesToStop, WritesLog}
+use Rattle.geo_chain.specs.declared.errors.ProveError.{ProveError}
+use Rattle.geo_chain.specs.declared.errors.ProveError.TheVariants as stopped
+use Rattle.log_checker.specs.ProgramLogs.{IsLogOf}
+use Rattle.log_checker.specs.Subjects.{IsSubjectOf}
+use Rattle.geo_chain.proofs.WholeLogs.{WritesDefined, WritesDefinedStop}
 use Rattle.geo_discover.specs.declared.examining.Judgement.{Judgement}
 use Rattle.geo_discover.specs.declared.examining.Judgement.TheVariants as judged
 use Rattle.geo_discover.specs.FoundTexts.{Finding, IsFinding}
-use Rattle.geo_discover.specs.Inner.Searching.{IsJudged, Tells, judgement_by}
+use Rattle.geo_discover.specs.Inner.Searching.{EndsSo, IsJudged, Tells, judgement_by}
 use Rattle.log_checker.specs.Checkers.{with_feeds}
 
 -- what a sink that was empty holds
@@ -40,32 +42,33 @@ module _ (p q : Source) (s : Statement) (steps : ℕ) (same : q ≡ with_stateme
   }
 
   -- the log ends with a verdict
-  pub judged_verdict : (summary : Summary) (log : List ℕ) → Concludes q steps (Some []) (Some log) summary
-      → IsJudged p steps s (judgement_by summary.verdict log)
-  judged_verdict summary log h = go summary.verdict h.log
+  pub judged_verdict : (lines : List Line) (verdict : Verdict) (left : ℕ) (log : List ℕ) → IsLogOf q steps lines (ends_with verdict left)
+      → log ≡ log_text lines → IsJudged p steps s (judgement_by verdict log)
+  judged_verdict lines verdict left log h is = go verdict h
     where
-      is : log ≡ log_text h.lines
-      is = held_is log (log_text h.lines) h.written
-
-      go : (v : Verdict) → IsLogOf q steps h.lines (ends_with v h.left) → IsJudged p steps s (judgement_by v log)
-      go Proved l = judged_by h.lines (ends_with Proved h.left) (judged.Relation log) l (h.left, refl, is)
-      go (False g) l = judged_by h.lines (ends_with (False g) h.left) judged.Fails l (g, h.left, refl)
-      go (Impossible k) l = judged_by h.lines (ends_with (Impossible k) h.left) (judged.Impossible k) l (h.left, refl)
+      go : (v : Verdict) → IsLogOf q steps lines (ends_with v left) → IsJudged p steps s (judgement_by v log)
+      go Proved l = judged_by lines (ends_with Proved left) (judged.Relation log) l (left, refl, is)
+      go (False g) l = judged_by lines (ends_with (False g) left) judged.Fails l (g, left, refl)
+      go (Impossible k) l = judged_by lines (ends_with (Impossible k) left) (judged.Impossible k) l (left, refl)
 
   -- or by a stop, or its text gets too long
-  pub judged_error : (e : ProveError) (h k : Option (List ℕ))
-      → ((line : ℕ) → e ≡ stopped.Spent line → WritesToStop q steps h k spent line)
-      → ((line : ℕ) (which : Which) → e ≡ stopped.TooLarge line which → WritesToStop q steps h k (too_large which) line)
-      → (e ≡ stopped.TooLong → WritesLog q steps h k too_long) → (e ≡ stopped.WriteFault → ⊥) → (e ≡ stopped.NoMemory → ⊥)
-      → IsJudged p steps s (judged.Open e)
-  judged_error (stopped.Spent line) h k a b d f n =
-      let at = a line refl in judged_by at.whole.lines (ends_by spent) (judged.Open (stopped.Spent line)) at.whole.log (refl, at.last)
-  judged_error (stopped.TooLarge line which) h k a b d f n =
-      let at = b line which refl in
-      judged_by at.whole.lines (ends_by (too_large which)) (judged.Open (stopped.TooLarge line which)) at.whole.log (refl, at.last)
-  judged_error stopped.TooLong h k a b d f n = let l = d refl in judged_by l.lines too_long (judged.Open stopped.TooLong) l.log refl
-  judged_error stopped.WriteFault h k a b d f n = absurd (f refl)
-  judged_error stopped.NoMemory h k a b d f n = absurd (n refl)
+  module _ (subject : Subject) (own : IsSubjectOf q subject) (two : subject.version ≡ 2) (h k : Option (List ℕ)) where
+    opened_by : (e : ProveError) (ending : Ending) (d : WritesDefined subject steps h k ending)
+        → EndsSo (record { statement = s; lines = d.lines; ending = ending }) e → IsJudged p steps s (judged.Open e)
+    opened_by e ending d ends =
+        judged_by d.lines ending (judged.Open e) (record { subject = subject; about = own; version = two; defined = d.defined }) ends
+
+    pub judged_error : (e : ProveError) → ((line : ℕ) → e ≡ stopped.Spent line → WritesDefinedStop subject steps h k spent line)
+        → ((line : ℕ) (which : Which) → e ≡ stopped.TooLarge line which → WritesDefinedStop subject steps h k (too_large which) line)
+        → (e ≡ stopped.TooLong → WritesDefined subject steps h k too_long) → (e ≡ stopped.WriteFault → ⊥) → (e ≡ stopped.NoMemory → ⊥)
+        → IsJudged p steps s (judged.Open e)
+    judged_error (stopped.Spent line) a b d f n =
+        let at = a line refl in opened_by (stopped.Spent line) (ends_by spent) at.whole (refl, at.last)
+    judged_error (stopped.TooLarge line which) a b d f n =
+        let at = b line which refl in opened_by (stopped.TooLarge line which) (ends_by (too_large which)) at.whole (refl, at.last)
+    judged_error stopped.TooLong a b d f n = opened_by stopped.TooLong too_long (d refl) refl
+    judged_error stopped.WriteFault a b d f n = absurd (f refl)
+    judged_error stopped.NoMemory a b d f n = absurd (n refl)
 
 -- LINES
 -- the lines of a log have no line feed

@@ -26,7 +26,7 @@ use Rattle.log_checker.proofs.DefinedBytes.{defined_bytes_are_accepted}
 use Rattle.proof_log.specs.declared.log.Verdict.{Verdict}
 use Rattle.proof_log.specs.declared.log.Verdict.TheVariants.{False, Impossible, Proved}
 use Rattle.proof_log.specs.Lines.{verdict_text}
-use Rattle.geo_prover.specs.Proving.{IsLogOf}
+use Rattle.log_checker.specs.ProgramLogs.{IsLogOf}
 use Rattle.geo_discover.specs.Candidates.{candidates, candidates_over, points_of, quadruples, segments_over, share_point, triples}
 use Rattle.geo_discover.specs.FoundTexts.{AreFindings, Finding, FirstIsAccepted, ImpossibleSearchesTell, IsSearched, CandidateOutcome, cut, open_end_at}
 use Rattle.geo_discover.specs.FoundTexts.{end_with, lines_with}

@@ -22,8 +22,8 @@ use Rattle.geo_logs.specs.Starts.{start_charge, start_of}
 use Rattle.geo_logs.proofs.OneEnd.{made_not_stopped, one_stop}
 use Rattle.geo_logs.proofs.OneNext.{one_next, one_start_stop, start_not_stopped}
 use Rattle.geo_logs.proofs.OneStep.{no_move}
-use Rattle.log_maker.specs.FixedLogs.{IsFixedChain, IsFixedLog, IsFixedSample, IsStopInFrame, LeadsInFrame}
-use Rattle.log_maker.specs.Frames.{after_step, framed, framed_variables}
+use Rattle.geo_chain.specs.FixedLogs.{IsFixedChain, IsFixedLog, IsFixedSample, IsStopInFrame, LeadsInFrame}
+use Rattle.geo_chain.specs.Frames.{after_step, framed, framed_variables}
 use Rattle.geo_discover.proofs.OneFixedLog.{fixed_verdict_unique, not_over, one_after, one_due, one_fixed_chain}
 use Rattle.geo_discover.specs.Laws.{FixedLogIsUnique}
 

@@ -20,7 +20,7 @@ use Rattle.geo_logs.proofs.OneList.{defined_log_unique}
 use Rattle.log_checker.specs.Subjects.{source_lines}
 use Rattle.log_checker.proofs.OneSubject.{subjects_agree}
 use Rattle.proof_log.specs.declared.log.Line.{Line}
-use Rattle.geo_prover.specs.Proving.{IsLogOf}
+use Rattle.log_checker.specs.ProgramLogs.{IsLogOf}
 use Rattle.geo_discover.specs.Candidates.{candidates, candidates_over}
 use Rattle.geo_discover.specs.FoundTexts.{AreFindings, Finding, SearchEnd, SearchIsUnique, candidate_lines, cut, first_impossible}
 use Rattle.geo_discover.specs.FoundTexts.{found_lines, lines_with, opens, outcome_of, relations, candidate_text, whole_end}

@@ -9,7 +9,7 @@ use Rattle.std.proofs.lemmas.Result.{err_from_is_err_and}
 use Rattle.geo_base.specs.Devices.{Grows, HasRisen}
 use Rattle.geo_base.proofs.DeviceLemmas.{Grows-append, Grows-nothing}
 use Rattle.proof_log.specs.Writable.{HasNoLineFeed}
-use Rattle.geo_prover.proofs.FirstLines.{feed_at}
+use Rattle.geo_chain.proofs.FirstLines.{feed_at}
 use Rattle.geo_discover.specs.declared.errors.DiscoverError.{DiscoverError}
 use Rattle.geo_discover.specs.declared.errors.DiscoverError.TheVariants.{Impossible, Spent, TooLarge, TooLong, WriteFault, NoMemory}
 use Rattle.geo_discover.specs.Inner.Puts.{BreaksOff, IsPieceOf, IsTextCut, IsUnput, PutsLines}

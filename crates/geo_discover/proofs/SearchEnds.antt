@@ -15,8 +15,8 @@ use Rattle.geo_program.proofs.Restated.{relations_may_be_stated}
 use Rattle.geo_logs.specs.Ends.{ends_by, too_long}
 use Rattle.geo_logs.specs.Moves.{spent, too_large}
 use Rattle.log_checker.proofs.AcceptedBytes.{programs_have_defined_logs}
-use Rattle.log_maker.specs.declared.errors.ProveError.{ProveError}
-use Rattle.log_maker.specs.declared.errors.ProveError.TheVariants as stopped
+use Rattle.geo_chain.specs.declared.errors.ProveError.{ProveError}
+use Rattle.geo_chain.specs.declared.errors.ProveError.TheVariants as stopped
 use Rattle.geo_discover.specs.declared.errors.DiscoverError.{DiscoverError}
 use Rattle.geo_discover.specs.declared.errors.DiscoverError.TheVariants.{Impossible, Spent, TooLarge, TooLong, WriteFault, NoMemory}
 use Rattle.geo_discover.specs.Candidates.{candidates}

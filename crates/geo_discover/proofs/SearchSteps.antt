@@ -6,8 +6,8 @@ use Rattle.std.proofs.lemmas.List.Concat.{flat_map-append}
 use Rattle.std.proofs.lemmas.List.Sums.{sum_by-append}
 use Rattle.geo_program.specs.declared.statements.Statement.{Statement}
 use Rattle.geo_program.specs.WellFormed.{Source}
-use Rattle.log_maker.specs.declared.errors.ProveError.{ProveError}
-use Rattle.log_maker.specs.declared.errors.ProveError.TheVariants as stopped
+use Rattle.geo_chain.specs.declared.errors.ProveError.{ProveError}
+use Rattle.geo_chain.specs.declared.errors.ProveError.TheVariants as stopped
 use Rattle.geo_discover.specs.declared.errors.DiscoverError.{DiscoverError}
 use Rattle.geo_discover.specs.declared.errors.DiscoverError.TheVariants.{Impossible, Spent, TooLarge, TooLong, WriteFault, NoMemory}
 use Rattle.geo_discover.specs.FoundTexts.{AreFindings, Finding, IsFinding, CandidateOutcome, candidate_lines, first_impossible, impossible_in, nothing}

@@ -3,14 +3,16 @@ use Rattle.std.proofs.Common.{◌≡◌, ◌≢◌, ◌⊎◌, All, ℕ, suc, �
 use Rattle.std.proofs.Common.{refl, sym, ◌∙◌, ap, subst, arith}
 use Rattle.std.proofs.lemmas.List.{length-append}
 use Rattle.geo_conditions.specs.declared.items.Item.{Item as ListedItem}
-use Rattle.geo_base.specs.Devices.{HasRisen}
-use Rattle.geo_conditions.specs.Lists.{Found, IsListed, IsProblem, found_at, found_from, goal_item, item_form}
+use Rattle.geo_base.specs.Devices.{Grows, HasRisen}
+use Rattle.geo_conditions.specs.Lists.{Found, IsListed, IsProblem, ItemForm, found_at, found_from, goal_item, item_form}
+use Rattle.geo_conditions.specs.declared.problem.Problem.{Problem}
+use Rattle.geo_conditions.specs.Problems.{form_of_problem}
 use Rattle.geo_conditions.specs.Statements.{statement_conditions}
 use Rattle.geo_lowering.specs.Conditions.{Condition}
 use Rattle.geo_lowering.specs.Lowering.{LoweredForm}
 use Rattle.geo_lowering.specs.declared.version.Version.TheVariants.{Two}
 use Rattle.geo_logs.specs.Ends.{stop_line, text_length}
-use Rattle.geo_logs.specs.Logs.{Item}
+use Rattle.geo_logs.specs.Logs.{Item, Subject}
 use Rattle.geo_logs.specs.Moves.{Stop, spent, too_large}
 use Rattle.geo_logs.specs.Places.{first_lines}
 use Rattle.geo_poly.specs.declared.variables.Var.{Var}
@@ -23,30 +25,30 @@ use Rattle.geo_terms.specs.Stores.{Store}
 use Rattle.proof_log.specs.declared.log.Line.{Line}
 use Rattle.proof_log.specs.declared.log.Verdict.{Verdict}
 use Rattle.proof_log.specs.Lines.{log_text}
-use Rattle.log_checker.specs.Subjects.{IsSubjectOf, log_item}
+use Rattle.log_checker.specs.Subjects.{IsSubjectOf, log_item, source_lines}
+use Rattle.log_checker.proofs.DueProblems.{about as about_problem, map_twice}
 use Rattle.log_checker.proofs.Realised.{goals_named}
 use Rattle.log_checker.proofs.Verdicts.{parts_of}
-use Rattle.log_maker.specs.declared.errors.ProveError.{ProveError}
-use Rattle.log_maker.specs.declared.errors.ProveError.TheVariants as stopped
-use Rattle.log_maker.specs.declared.frame.Frame.TheVariants.{Full}
-use Rattle.log_maker.specs.declared.size.Size.{Size}
-use Rattle.log_maker.specs.declared.size.Size.TheVariants.{Written}
-use Rattle.log_maker.specs.Halting.{Finishes, Halts, IsStopped, Passes}
-use Rattle.log_maker.specs.Parts.{CanWrite, Part, goals_part, items_of, log_part}
-use Rattle.log_maker.specs.Sizes.{Fits, with_text}
-use Rattle.log_maker.specs.Tasks.{IsItemReady}
-use Rattle.log_maker.specs.Written.{State, Writes, first_state}
-use Rattle.log_maker.proofs.Passing.{can_write_on, finishes_on, halts_on, passes_on, text_length-append}
-use Rattle.geo_prover.specs.declared.summary.Summary.{Summary}
-use Rattle.geo_prover.specs.Inner.Answers.{IsAnswerOf}
-use Rattle.geo_prover.specs.Proving.{Concludes}
-use Rattle.geo_prover.proofs.Finishing.{can_write, concluded, halted, items_ready, past_program, subject_with}
+use Rattle.geo_chain.specs.FirstLines.{IsBrokenOffAmong, program_lines}
+use Rattle.geo_chain.specs.declared.errors.ProveError.{ProveError}
+use Rattle.geo_chain.specs.declared.errors.ProveError.TheVariants as stopped
+use Rattle.geo_chain.specs.declared.frame.Frame.TheVariants.{Full}
+use Rattle.geo_chain.specs.declared.size.Size.{Size}
+use Rattle.geo_chain.specs.declared.size.Size.TheVariants.{Written}
+use Rattle.geo_chain.specs.Halting.{Finishes, Halts, IsStopped, Passes}
+use Rattle.geo_chain.specs.Parts.{CanWrite, Part, goals_part, items_of, log_part}
+use Rattle.geo_chain.specs.Sizes.{Fits, with_text}
+use Rattle.geo_chain.specs.Tasks.{IsItemReady, conditions_from}
+use Rattle.geo_chain.specs.Written.{State, Writes, first_state}
+use Rattle.geo_chain.proofs.Passing.{can_write_on, finishes_on, halts_on, passes_on, text_length-append}
+use Rattle.geo_chain.proofs.WholeLogs.{finished, grown, items_ready, left_out, past_program, stopped as stopped_log, too_long_among}
 use Rattle.geo_discover.specs.declared.examining.Judgement.{Judgement}
 use Rattle.geo_discover.specs.declared.examining.Judgement.TheVariants as judged
 use Rattle.geo_discover.specs.Inner.Searching.{IsCandidate, IsJudged, judgement_by}
-use Rattle.geo_discover.specs.Inner.Sharing.{AreMet, IsSaid, IsStoppedBy, IsStoppedThere, from_conditions, program_lines}
+use Rattle.geo_discover.specs.Inner.Sharing.{AreMet, IsSaid, IsStoppedBy, IsStoppedThere, from_conditions}
 use Rattle.geo_discover.proofs.FixedAnswers.{front_count}
-use Rattle.geo_discover.proofs.Judging.{judged_error, judged_verdict, no_rise}
+use Rattle.geo_discover.proofs.Judging.{held_is, judged_error, judged_verdict, no_rise}
+use Rattle.geo_discover.proofs.OwnLogs.{can_write, subject_with}
 
 -- THE SUBJECT
 nothing_contained : {A : Type 0} (x : A) → Contains [] x → ⊥
@@ -92,9 +94,14 @@ module _ (p : Source) (first s : Statement) (l : LoweredForm) (cs gs : List List
     same_version = refl;
     same_program = refl;
     same_construction = refl;
-    same_conditions = refl;
+    same_conditions = map_twice log_item (item_form l.construction.nodes) cs;
     same_goals = e;
   }
+
+-- the items of a goal as a log takes them
+pub goal_taken : (p : Source) (s : Statement) (nodes : Store) (items : List ListedItem) → map (item_form nodes) items ≡ goal_item Two p s ∷ []
+    → items_of nodes items ≡ log_item (goal_item Two p s) ∷ []
+goal_taken p s nodes items e = map_twice log_item (item_form nodes) items ∙ ap (λ (xs : List ItemForm). map log_item xs) e
 
 -- the goal's term names what the construction has
 pub goal_ready : (q : Source) (c : Construction) (conditions : List Item) (nodes : Store) (items : List ListedItem) → IsWellFormed q
@@ -111,8 +118,11 @@ module _ (p : Source) (s : Statement) (c : Construction) (conditions goals : Lis
   abbrev q : Source
   q = with_statement p s
 
+  abbrev subject : Subject
+  subject = subject_with q c conditions goals
+
   abbrev whole : Part
-  whole = log_part Full (subject_with q c conditions goals) steps
+  whole = log_part Full subject steps
 
   -- behind the first lines and the conditions
   pub past_conditions : (known : List Var) (ends : List Summands) (text : List ℕ) (count left : ℕ) (r t u : State)
@@ -122,25 +132,45 @@ module _ (p : Source) (s : Statement) (c : Construction) (conditions goals : Lis
       → Passes whole (goals_part Full c known ends 1 left goals) r u
   past_conditions known ends text count left r t u h met again =
       passes_on whole (from_conditions c conditions steps goals) (goals_part Full c known ends 1 left goals) r t u
-      (past_program q c conditions goals steps w small about r t h)
+      (past_program subject steps r t h)
       (record { lines = met.lines; continues = met.continues; written = again met.lines met.text_is met.counted })
 
   pub goal_writable : (part : Part) (r u : State) → r.size ≡ Written 0 → Passes whole part r u → CanWrite Full c part u.size
   goal_writable part r u none h =
-      can_write_on Full c whole part r u h (can_write q c conditions goals steps w small about r.size none)
+      can_write_on Full c whole part r u h (can_write q subject steps w small about r.size none)
 
   -- ANSWERS
-  judged_answer : (r t : State) (e : ProveError) → r.faults ≡ 0 → t.faults ≡ r.faults → e ≢ stopped.NoMemory → IsAnswerOf q steps r t e
-      → IsJudged p steps s (judged.Open e)
-  judged_answer r t e zero_there same other h =
-      judged_error p q s steps refl e r.held t.held (λ line is. (told (stopped.Spent line) is).0)
-      (λ line which is. (told (stopped.TooLarge line which) is).0) (λ is. (told stopped.TooLong is).0)
-      (λ is. let z : t.faults ≡ 0 = same ∙ zero_there in
-      no_rise (subst (λ n. HasRisen n 0) zero_there (subst (λ n. HasRisen r.faults n) z (told stopped.WriteFault is).0)))
-      other
-    where
-      told : (x : ProveError) → e ≡ x → IsAnswerOf q steps r t x
-      told x is = subst (λ y. IsAnswerOf q steps r t y) is h
+  module _ (r t : State) (lines_none : r.lines ≡ 0) (size_none : r.size ≡ Written 0) (faults_none : r.faults ≡ 0)
+      (same : t.faults ≡ r.faults) where
+    not_risen : HasRisen r.faults t.faults → ⊥
+    not_risen h =
+        let z : t.faults ≡ 0 = same ∙ faults_none in
+        no_rise (subst (λ n. HasRisen n 0) faults_none (subst (λ n. HasRisen r.faults n) z h))
+
+    judged_answer : (e : ProveError) → e ≢ stopped.NoMemory → Halts Full c whole r t e → IsJudged p steps s (judged.Open e)
+    judged_answer e other h =
+        judged_error p q s steps refl subject about refl r.held t.held e
+        (λ line is. stopped_log subject steps r t size_none lines_none spent line (told (stopped.Spent line) is))
+        (λ line which is. stopped_log subject steps r t size_none lines_none (too_large which) line (told (stopped.TooLarge line which) is))
+        (λ is. left_out subject steps r t size_none (told stopped.TooLong is))
+        (λ is. not_risen (told stopped.WriteFault is).1)
+        other
+      where
+        told : (x : ProveError) → e ≡ x → Halts Full c whole r t x
+        told x is = subst (λ y. Halts Full c whole r t y) is h
+
+    -- one of the first lines is not written
+    pub judged_among : (e : ProveError) → e ≢ stopped.NoMemory → IsBrokenOffAmong (program_lines q) r t e → IsJudged p steps s (judged.Open e)
+    judged_among e other h =
+        judged_error p q s steps refl subject about refl r.held t.held e
+        (λ line is. absurd (told (stopped.Spent line) is))
+        (λ line which is. absurd (told (stopped.TooLarge line which) is))
+        (λ is. left_out subject steps r t size_none (too_long_among subject steps r t (told stopped.TooLong is)))
+        (λ is. not_risen (told stopped.WriteFault is).1)
+        other
+      where
+        told : (x : ProveError) → e ≡ x → IsBrokenOffAmong (program_lines q) r t x
+        told x is = subst (λ y. IsBrokenOffAmong (program_lines q) r t y) is h
 
   -- what is said of the rest is what the whole log says
   module _ (r : State) (lines_none : r.lines ≡ 0) (size_none : r.size ≡ Written 0) (held_none : r.held ≡ Some []) (faults_none : r.faults ≡ 0) where
@@ -152,19 +182,19 @@ module _ (p : Source) (s : Statement) (c : Construction) (conditions goals : Lis
             × Fits h.after.size × Finishes part u h.after verdict left)
             ⊎ ((error : ProveError) × (judgement ≡ judged.Open error) × (error ≢ stopped.NoMemory) × (h.after.faults ≡ u.faults)
             × Halts Full c part u h.after error) → IsJudged p steps s judgement
-        go (inl (verdict, left, log, is, held, fits, finished)) =
-            let summary : Summary = record { verdict = verdict; lines = h.after.lines; charge = steps - left } in
-            let all = finishes_on whole part r u h.after verdict left passed finished in
-            let done : Concludes q steps r.held h.after.held summary =
-            concluded q c conditions goals steps w small about r h.after lines_none size_none summary left all fits refl refl in
+        go (inl (verdict, left, log, is, held, fits, done)) =
+            let all = finishes_on whole part r u h.after verdict left passed done in
+            let defined = finished subject steps r h.after size_none verdict left all fits in
+            let written = grown subject steps r h.after size_none (log_text all.lines) all.written.written in
             subst (IsJudged p steps s) (sym is)
-            (judged_verdict p q s steps refl summary log
-            (subst (λ x. Concludes q steps (Some []) x summary) held (subst (λ x. Concludes q steps x h.after.held summary) held_none done)))
+            (judged_verdict p q s steps refl all.lines verdict left log
+            (record { subject = subject; about = about; version = refl; defined = defined })
+            (held_is log (log_text all.lines)
+            (subst (λ x. Grows (Some []) (log_text all.lines) x) held (subst (λ x. Grows x (log_text all.lines) h.after.held) held_none written))))
         go (inr (error, is, other, same, halts)) =
             subst (IsJudged p steps s) (sym is)
-            (judged_answer r h.after error faults_none (same ∙ sound) other
-            (halted q c conditions goals steps w small about r h.after lines_none size_none error
-            (halts_on Full c whole part r u h.after passed error halts)))
+            (judged_answer r h.after lines_none size_none faults_none (same ∙ sound) error other
+            (halts_on Full c whole part r u h.after passed error halts))
 
   -- LENGTHS
   -- the lines before the chains and those of the conditions, as if they were written
@@ -243,8 +273,7 @@ module _ (p : Source) (s : Statement) (c : Construction) (conditions goals : Lis
         let short = h.short in
         let sum : text_length all ≡ text_length front + text_length h.lines = text_length-append front h.lines in
         let there : (0 + text_length front) + bytes ≤ 67108864 = subst (λ (z : Size). Fits (with_text z bytes)) measured room in
-        judged_answer r t e refl refl other
-        (halted q c conditions goals steps w small about r t refl refl e
+        judged_answer r t refl refl refl refl e other
         (halts t (record {
           lines = all;
           place = h.place;
@@ -254,7 +283,7 @@ module _ (p : Source) (s : Statement) (c : Construction) (conditions goals : Lis
           last = omega (arith, last, k, l);
           written = refl;
           faults = refl;
-        })))
+        }))
 
     pub stopped_judged : (e : ProveError) → IsStoppedBy c conditions steps (length p.commands + 2) bytes e goals
         → IsJudged p steps s (judged.Open e)
@@ -266,3 +295,39 @@ module _ (p : Source) (s : Statement) (c : Construction) (conditions goals : Lis
     stopped_judged stopped.TooLong h = absurd h
     stopped_judged stopped.WriteFault h = absurd h
     stopped_judged stopped.NoMemory h = absurd h
+
+-- A LOG FROM THE BEGINNING
+module _ (p : Source) (s : Statement) (q : Source) (same : q ≡ with_statement p s) (problem : Problem) (steps : ℕ) (w : IsWellFormed q)
+    (small : steps < 2 ^ 127) (is : IsProblem Two q (form_of_problem problem) problem.conditions problem.goals) where
+  abbrev c : Construction
+  c = problem.steps
+
+  abbrev xs : List Item
+  xs = items_of c.nodes problem.conditions
+
+  abbrev ys : List Item
+  ys = items_of c.nodes problem.goals
+
+  formed : IsWellFormed (with_statement p s)
+  formed = subst IsWellFormed same w
+
+  own : IsSubjectOf (with_statement p s) (subject_with (with_statement p s) c xs ys)
+  own =
+      about_problem Two (with_statement p s) problem
+      (subst (λ (x : Source). IsProblem Two x (form_of_problem problem) problem.conditions problem.goals) same is)
+
+  -- what is said of the chains behind the first lines
+  pub chains_judged : (t : State) (judgement : Judgement) → Writes (program_lines q) (first_state (Some []) 0) t
+      → IsSaid c (conditions_from Full problem 0 [] [] steps) t judgement → IsJudged p steps s judgement
+  chains_judged t judgement h said =
+      let subject = subject_with (with_statement p s) c xs ys in
+      let first = subst (λ (x : Source). Writes (program_lines x) (first_state (Some []) 0) t) same h in
+      said_judged p s c xs ys steps formed small own (first_state (Some []) 0) refl refl refl refl
+      (conditions_from Full problem 0 [] [] steps) t judgement (past_program subject steps (first_state (Some []) 0) t first) h.faults said
+
+  -- one of these is not written
+  pub first_judged : (t : State) (e : ProveError) → t.faults ≡ 0 → e ≢ stopped.NoMemory
+      → IsBrokenOffAmong (program_lines q) (first_state (Some []) 0) t e → IsJudged p steps s (judged.Open e)
+  first_judged t e sound other h =
+      judged_among p s c xs ys steps formed small own (first_state (Some []) 0) t refl refl refl sound e other
+      (subst (λ (x : Source). IsBrokenOffAmong (program_lines x) (first_state (Some []) 0) t e) same h)

@@ -45,8 +45,8 @@ use Rattle.log_checker.proofs.Places.{each_of}
 use Rattle.log_checker.proofs.Realised.{conditions_named, goals_named}
 use Rattle.log_checker.proofs.Verdicts.{Parts, parts_of, valid}
 use Rattle.log_checker.proofs.Writing.{start_own}
-use Rattle.log_maker.specs.FixedLogs.{IsFixedChain, IsFixedLog, IsFixedSample, IsStopInFrame, LeadsInFrame}
-use Rattle.log_maker.specs.Frames.{after_step, framed, framed_variables}
+use Rattle.geo_chain.specs.FixedLogs.{IsFixedChain, IsFixedLog, IsFixedSample, IsStopInFrame, LeadsInFrame}
+use Rattle.geo_chain.specs.Frames.{after_step, framed, framed_variables}
 use Rattle.geo_discover.specs.Laws.{ProgramsHaveAFixedLog}
 use Rattle.geo_discover.specs.FixedEnds.{EndsWithVerdict, StopsAtLine}
 use Rattle.geo_discover.proofs.FixedChains.{fixed_named, fixed_polynomial}

@@ -9,15 +9,15 @@ use Rattle.proof_log.specs.declared.log.Line.{Line}
 use Rattle.proof_log.specs.declared.log.Verdict.{Verdict}
 use Rattle.proof_log.specs.declared.log.Verdict.TheVariants.{False, Impossible, Proved}
 use Rattle.proof_log.specs.Lines.{log_text}
-use Rattle.log_maker.specs.declared.errors.ProveError.{ProveError}
-use Rattle.log_maker.specs.declared.errors.ProveError.TheVariants as stopped
-use Rattle.log_maker.specs.declared.frame.Frame.TheVariants.{Full}
-use Rattle.log_maker.specs.declared.size.Size.{Size}
-use Rattle.log_maker.specs.declared.size.Size.TheVariants.{Written, Counted, Bounded}
-use Rattle.log_maker.specs.Halting.{Finishes, Halts, IsStopped}
-use Rattle.log_maker.specs.Parts.{Part}
-use Rattle.log_maker.specs.Sizes.{Fits, HoldsText, IsSizeAfter, IsTakable, bytes_of, with_text}
-use Rattle.log_maker.specs.Written.{State}
+use Rattle.geo_chain.specs.declared.errors.ProveError.{ProveError}
+use Rattle.geo_chain.specs.declared.errors.ProveError.TheVariants as stopped
+use Rattle.geo_chain.specs.declared.frame.Frame.TheVariants.{Full}
+use Rattle.geo_chain.specs.declared.size.Size.{Size}
+use Rattle.geo_chain.specs.declared.size.Size.TheVariants.{Written, Counted, Bounded}
+use Rattle.geo_chain.specs.Halting.{Finishes, Halts, IsStopped}
+use Rattle.geo_chain.specs.Parts.{Part}
+use Rattle.geo_chain.specs.Sizes.{Fits, HoldsText, IsSizeAfter, IsTakable, bytes_of, with_text}
+use Rattle.geo_chain.specs.Written.{State}
 use Rattle.geo_discover.specs.declared.examining.Judgement.{Judgement}
 use Rattle.geo_discover.specs.declared.examining.Judgement.TheVariants as judged
 use Rattle.geo_discover.specs.Inner.Searching.{judgement_by, unwritten_judgement}

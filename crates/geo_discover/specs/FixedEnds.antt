@@ -8,7 +8,7 @@ use Rattle.geo_logs.specs.Ends.{ends_by, ends_with}
 use Rattle.geo_logs.specs.Logs.{Subject}
 use Rattle.geo_logs.specs.Moves.{Stop}
 use Rattle.log_checker.specs.Subjects.{IsSubjectOf}
-use Rattle.log_maker.specs.FixedLogs.{IsFixedLog}
+use Rattle.geo_chain.specs.FixedLogs.{IsFixedLog}
 
 -- it ends with this verdict
 pub record EndsWithVerdict (p : Source) (steps : ℕ) (verdict : Verdict) : Type 0 where

@@ -15,7 +15,7 @@ use Rattle.proof_log.specs.declared.log.Verdict.TheVariants.{False, Impossible, 
 use Rattle.proof_log.specs.Lines.{line_text, log_text}
 use Rattle.geo_logs.specs.Ends.{Ending, ends_by, ends_with, too_long}
 use Rattle.log_checker.specs.Accepted.{Accepts}
-use Rattle.geo_prover.specs.Proving.{IsLogOf}
+use Rattle.log_checker.specs.ProgramLogs.{IsLogOf}
 use Rattle.geo_discover.specs.Candidates.{candidates}
 use Rattle.log_checker.specs.Checkers.{with_feeds}
 use Rattle.geo_program.specs.Relations.{with_statement}

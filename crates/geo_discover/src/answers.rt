@@ -4,7 +4,7 @@ ghost use Rattle.std.specs.Prelude.{◌≡◌};
 ghost use Rattle.geo_discover.specs.Inner.Searching.{answer_of};
 
 use crate::errors::DiscoverError;
-use log_maker::ProveError;
+use geo_chain::ProveError;
 
 /// What is answered where the log of the first open candidate ends so.
 pub(crate) fn answer_to(error: ProveError) -> DiscoverError

@@ -1,8 +1,8 @@
 //! Why a search, or a log in the fixed frame, does not end with what is asked for.
 
+use geo_chain::ProveError;
 use geo_points::NoMemory;
 use geo_poly::Which;
-use log_maker::ProveError;
 use std::alloc::{AllocError, AllocFailed};
 
 /// Why a search does not tell of every candidate whether it is a relation.

@@ -7,16 +7,17 @@ ghost use Rattle.geo_logs.specs.Ends.{text_length};
 ghost use Rattle.geo_poly.specs.Specialise.{NoneZero};
 ghost use Rattle.geo_program.specs.Programs.{program_text, source_of};
 ghost use Rattle.geo_program.specs.Relations.{with_statement};
-ghost use Rattle.log_maker.specs.Halting.{Finishes, Halts};
-ghost use Rattle.log_maker.specs.Parts.{CanWrite};
-ghost use Rattle.log_maker.specs.Sizes.{bytes_of};
-ghost use Rattle.log_maker.specs.Tasks.{IsItemReady, goals_from};
-ghost use Rattle.log_maker.specs.Written.{Writes, first_state, state};
-ghost use Rattle.log_maker.specs.declared.frame.Frame.TheVariants.{Full};
-ghost use Rattle.log_maker.specs.declared.size.Size.{Size};
+ghost use Rattle.geo_chain.specs.FirstLines.{program_lines};
+ghost use Rattle.geo_chain.specs.Halting.{Finishes, Halts};
+ghost use Rattle.geo_chain.specs.Parts.{CanWrite};
+ghost use Rattle.geo_chain.specs.Sizes.{bytes_of};
+ghost use Rattle.geo_chain.specs.Tasks.{HasReadyItems, IsItemReady, conditions_from, goals_from};
+ghost use Rattle.geo_chain.specs.Written.{Writes, first_state, state};
+ghost use Rattle.geo_chain.specs.declared.frame.Frame.TheVariants.{Full};
+ghost use Rattle.geo_chain.specs.declared.size.Size.{Size};
 ghost use Rattle.geo_discover.specs.Inner.Searching.{IsCandidate, IsJudged, judgement_by};
 ghost use Rattle.geo_discover.specs.Inner.Searching.{unwritten_judgement};
-ghost use Rattle.geo_discover.specs.Inner.Sharing.{IsFigureOf, IsGoalOf, IsSaid, program_lines};
+ghost use Rattle.geo_discover.specs.Inner.Sharing.{IsFigureOf, IsGoalOf, IsSaid};
 
 use crate::figure::{Figure, Worked};
 use crate::fixing::lines_before;
@@ -24,11 +25,13 @@ use crate::goal::{Goal, goal_of};
 use crate::texts::sum_within;
 use elim_apply::KnownRows;
 use geo_base::{Budget, SureSink};
+use geo_chain::{Findings, Frame, LogWriter, ProveError, Size, work, work_rest, write_first_lines};
+use geo_conditions::Problem;
+use geo_lowering::Version;
 use geo_points::NoMemory;
 use geo_program::{Printer, Program, Statement};
-use geo_prover::{prove, write_first_lines};
 use geo_terms::Steps;
-use log_maker::{Findings, Frame, LogWriter, ProveError, Size, work_rest};
+use log_checker::versions::problem_by;
 use proof_log::Verdict;
 use std::alloc::Global;
 
@@ -90,7 +93,7 @@ fn judge_goal(
     }
     match judge_shared(alloc, program, figure, statement, goal)? {
         Some(judgement) => Ok(judgement),
-        None => judge_alone(alloc, program, figure.steps, statement),
+        None => judge_whole(alloc, program, figure.steps, statement),
     }
 }
 
@@ -184,7 +187,7 @@ fn bounded_log(before: u64, lines: u64, front: u64, text: u64) -> Option<LogWrit
 }
 
 /// What is said by a log that is made from the beginning.
-fn judge_alone(
+fn judge_whole(
     alloc: Global,
     program: &Program,
     steps: u64,
@@ -195,9 +198,41 @@ fn judge_alone(
     ensures { IfOk result (IsJudged (source_of program.now) steps statement) }
 {
     let candidate = program.with_statement(alloc, statement)?;
-    let mut log = SureSink::new(alloc);
-    match prove(alloc, &candidate, steps, &mut log) {
-        Ok(summary) => Ok(judgement_of(summary.verdict, log)),
+    let problem = problem_by(alloc, Version::Two, &candidate)?;
+    let mut log = LogWriter::new();
+    let mut text = SureSink::new(alloc);
+    match write_first_lines(alloc, &candidate, &mut log, &mut text) {
+        Ok(()) => judge_chains(alloc, &problem, steps, log, text),
+        Err(error) => opened(error),
+    }
+}
+
+/// The same, where its first lines are written.
+fn judge_chains(
+    alloc: Global,
+    problem: &Problem,
+    steps: u64,
+    mut log: LogWriter,
+    mut text: SureSink,
+) -> Result<Judgement, NoMemory>
+    requires ready { HasReadyItems problem.now }
+    requires writable { CanWrite Full problem.now.steps
+        (conditions_from Full problem.now 0 [] [] steps) log.size }
+    ensures { IfOk result (IsSaid problem.now.steps
+        (conditions_from Full problem.now 0 [] [] steps) (state log (Some text) 0)) }
+{
+    let mut numbers = KnownRows::new(alloc)?;
+    let mut budget = Budget { left: steps };
+    match work(
+        alloc,
+        Frame::Full,
+        problem,
+        &mut numbers,
+        &mut budget,
+        &mut log,
+        &mut text,
+    ) {
+        Ok(verdict) => Ok(judgement_of(verdict, text)),
         Err(error) => opened(error),
     }
 }

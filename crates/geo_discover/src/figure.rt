@@ -6,23 +6,23 @@ ghost use Rattle.geo_conditions.specs.Lists.{IsProblem};
 ghost use Rattle.geo_conditions.specs.Problems.{form_of_problem};
 ghost use Rattle.geo_lowering.specs.declared.version.Version.TheVariants.{Two};
 ghost use Rattle.geo_program.specs.Programs.{program_text, source_of};
-ghost use Rattle.log_maker.specs.Parts.{CanWrite, items_of};
-ghost use Rattle.log_maker.specs.Tasks.{HasReadyItems, conditions_from};
-ghost use Rattle.log_maker.specs.declared.frame.Frame.TheVariants.{Full};
+ghost use Rattle.geo_chain.specs.FirstLines.{program_lines};
+ghost use Rattle.geo_chain.specs.Parts.{CanWrite, items_of};
+ghost use Rattle.geo_chain.specs.Tasks.{HasReadyItems, conditions_from};
+ghost use Rattle.geo_chain.specs.declared.frame.Frame.TheVariants.{Full};
 ghost use Rattle.geo_discover.specs.Inner.Searching.{IsCandidate};
 ghost use Rattle.geo_logs.specs.Ends.{text_length};
-ghost use Rattle.geo_discover.specs.Inner.Sharing.{AreWorked, IsFigureOf, program_lines};
+ghost use Rattle.geo_discover.specs.Inner.Sharing.{AreWorked, IsFigureOf};
 ghost use Rattle.geo_discover.specs.Inner.Sharing.{stopped_by};
 
 use elim_apply::KnownRows;
 use geo_base::{Budget, SureSink};
+use geo_chain::{Findings, Frame, LogWriter, ProveError, Size, work_conditions, write_first_lines};
 use geo_conditions::Problem;
 use geo_lowering::Version;
 use geo_points::NoMemory;
 use geo_program::{Program, Statement};
-use geo_prover::write_first_lines;
 use log_checker::versions::problem_by;
-use log_maker::{Findings, Frame, LogWriter, ProveError, Size, work_conditions};
 use std::alloc::Global;
 
 /// What all candidates have in common.

@@ -11,10 +11,10 @@ ghost use Rattle.log_checker.specs.Laws.{IsDecided};
 use crate::errors::FixedError;
 use elim_apply::KnownRows;
 use geo_base::{Budget, SureSink};
+use geo_chain::{Frame, LogWriter, work};
 use geo_lowering::Version;
 use geo_program::Program;
 use log_checker::versions::problem_by;
-use log_maker::{Frame, LogWriter, work};
 use proof_log::Verdict;
 use std::alloc::Global;
 

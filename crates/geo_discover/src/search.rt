@@ -9,8 +9,8 @@ use crate::figure::Figure;
 use crate::found_lines::{put_candidate, put_counts, put_impossible};
 use crate::found_text::FoundText;
 use geo_base::{Sink, SureSink};
+use geo_chain::ProveError;
 use geo_program::{Printer, Program, Statement};
-use log_maker::ProveError;
 use std::alloc::Global;
 
 /// What a search found.

@@ -15,7 +15,7 @@ ghost use Rattle.geo_library.specs.Inner.Counting.{IsChainHalted, IsChainWorked,
 ghost use Rattle.geo_library.specs.Inner.Counting.{TellsStop, error_of_stop};
 
 use crate::errors::CiteError;
-use elim_apply::{ApplyError, KnownRows, start};
+use elim_apply::{ApplyError, KnownRows, start_uncounted};
 use geo_base::Budget;
 use geo_chain::next_line_known;
 use geo_points::TermId;
@@ -94,7 +94,7 @@ fn first_polynomial(
 {
     now.count()?;
     let line = now.lines;
-    match start(alloc, steps, term, &mut now.budget) {
+    match start_uncounted(alloc, steps, term, &mut now.budget) {
         Ok(first) => Ok(first),
         Err(error) => Err(stopped(error, line)),
     }

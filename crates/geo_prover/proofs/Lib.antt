@@ -1,4 +1,3 @@
-pub mod FirstLines
 pub mod Finishing
 pub mod BenchPrograms
 pub mod BenchLengths

@@ -1,4 +1,3 @@
-pub mod FirstLines
 pub mod Proving
 pub mod Inner
 pub mod Bench

@@ -4,20 +4,11 @@ use Rattle.geo_base.specs.Devices.{Grows}
 use Rattle.geo_program.specs.WellFormed.{Source}
 use Rattle.proof_log.specs.declared.log.Line.{Line}
 use Rattle.proof_log.specs.Lines.{log_text}
-use Rattle.elim_apply.specs.LemmaTable.{lemma_table}
-use Rattle.geo_logs.specs.Ends.{Ending, IsDefinedLog, ends_by, ends_with}
-use Rattle.geo_logs.specs.Logs.{Subject}
+use Rattle.geo_logs.specs.Ends.{Ending, ends_by, ends_with}
 use Rattle.geo_logs.specs.Moves.{Stop}
 use Rattle.log_checker.specs.Accepted.{Accepts}
-use Rattle.log_checker.specs.Subjects.{IsSubjectOf}
+use Rattle.log_checker.specs.ProgramLogs.{IsLogOf}
 use Rattle.geo_prover.specs.declared.summary.Summary.{Summary}
-
--- the lines are the program's defined log with so many steps, which has version 2, and it ends so
-pub record IsLogOf (p : Source) (steps : ℕ) (lines : List Line) (ending : Ending) : Type 0 where
-  pub subject : Subject
-  pub about : IsSubjectOf p subject
-  pub version : subject.version ≡ 2
-  pub defined : IsDefinedLog lemma_table subject steps lines ending
 
 -- the log was written whole: it ends with the verdict that is told, and it is an accepted log of the program; its lines are counted, and
 -- the charges are what is not left of the steps

@@ -6,18 +6,17 @@ ghost use Rattle.geo_logs.specs.Ends.{too_long};
 ghost use Rattle.geo_logs.specs.Moves.{spent, too_large};
 ghost use Rattle.geo_poly.specs.declared.limits.Which.{Which};
 ghost use Rattle.geo_program.specs.Programs.{source_of};
-ghost use Rattle.log_maker.specs.Written.{first_state};
+ghost use Rattle.geo_chain.specs.Written.{first_state};
 ghost use Rattle.geo_prover.specs.Inner.Answers.{IsAnswerOf};
 ghost use Rattle.geo_prover.specs.Proving.{Concludes, WritesToStop, WritesLog, WritesPart};
 
-use crate::program_lines::write_first_lines;
 use crate::summary::Summary;
 use elim_apply::KnownRows;
 use geo_base::{Budget, Sink};
+use geo_chain::{Frame, LogWriter, ProveError, work, write_first_lines};
 use geo_lowering::Version;
 use geo_program::Program;
 use log_checker::versions::problem_by;
-use log_maker::{Frame, LogWriter, ProveError, work};
 use std::alloc::Global;
 
 /// Writes the defined log of the program, each line as soon as it is made: the header, the program,

@@ -14,7 +14,7 @@ use crate::moves_table::{ALONG, FEET, INTERSECTIONS, NUMBERS, TURNED};
 use crate::ratio_moves_table::{LINES, RATIOS, WORKED};
 use crate::weight_moves_table::WEIGHTS;
 use area_coords::CoordRows;
-use elim_apply::{ApplyError, Move, apply, start};
+use elim_apply::{ApplyError, Move, apply, start_uncounted};
 use elim_area::AreaRows;
 use elim_pyth::PythRows;
 use elim_ratio::RatioRows;
@@ -132,7 +132,7 @@ fn started(alloc: Global, steps: &Steps, term: TermId, left: u64) -> Answer
     requires { term.0 < length steps.now.nodes }
 {
     let mut budget = Budget { left };
-    let poly = start(alloc, steps, term, &mut budget);
+    let poly = start_uncounted(alloc, steps, term, &mut budget);
     Answer {
         poly,
         left: budget.left,

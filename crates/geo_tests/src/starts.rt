@@ -3,7 +3,7 @@
 //! repository.
 
 use crate::problems::problem_of;
-use elim_apply::{ApplyError, start};
+use elim_apply::{ApplyError, start_uncounted};
 use geo_base::Budget;
 use geo_poly::{Poly, Which};
 use proof_log::{Line, read_line};
@@ -76,7 +76,7 @@ fn start_of(alloc: Global, text: &str, left: u64) -> Result<Poly, ApplyError> {
     if goal.term.0 >= problem.steps.look().len() {
         return Err(ApplyError::NoRow);
     }
-    start(alloc, &problem.steps, goal.term, &mut Budget { left })
+    start_uncounted(alloc, &problem.steps, goal.term, &mut Budget { left })
 }
 
 // Whether the line is that of a start with this polynomial.

@@ -1,10 +1,11 @@
 -- Lines of moves and cuts that are judged by their text.
-use Rattle.std.proofs.Common.{◌≡◌, ℕ, ◌+◌, ◌-◌, Option, Some, None, List, [], ◌∷◌, ◌++◌, take, length, refl, sym, ap, ◌∙◌, ℤ, arith}
+use Rattle.std.proofs.Common.{◌≡◌, ℕ, ◌+◌, ◌-◌, Bool, true, false, Option, Some, None, Result, Ok, Err, IfOk, IsTrue, List, [], ◌∷◌, ◌++◌, take, length, refl, sym, ap, subst, ◌∙◌, ℤ, arith}
 use Rattle.std.specs.Prelude.{MatchOption}
 use Rattle.std.specs.Option.{option_to_list}
 use Rattle.std.proofs.lemmas.List.{append-nil, length-append}
 use Rattle.geo_poly.specs.declared.variables.Var.{Var}
 use Rattle.geo_poly.specs.Cuts.{IsCut}
+use Rattle.geo_poly.specs.Factors.{IsFactor}
 use Rattle.geo_poly.specs.Monomials.{Powers}
 use Rattle.geo_poly.specs.PolynomialVariables.{variables_of}
 use Rattle.geo_poly.specs.Polynomials.{Summands}
@@ -17,12 +18,14 @@ use Rattle.proof_log.specs.declared.log.Line.TheVariants.{Cut}
 use Rattle.proof_log.specs.Writable.{CanWriteFactor, CanWritePolynomial, IsVariable, IsWritable}
 use Rattle.elim_apply.specs.LemmaTable.{lemma_table}
 use Rattle.geo_logs.specs.Chains.{cuts, line_of, moves}
+use Rattle.geo_logs.specs.Judging.{IsByKnown}
 use Rattle.geo_logs.specs.Moves.{IsMoved, move_charge, replacement}
 use Rattle.geo_logs.specs.Starts.{start_charge, start_of}
 use Rattle.geo_logs.specs.declared.moves.Move.{Move}
 use Rattle.log_checker.specs.Checkers.{header_of, subject_of}
 use Rattle.proof_log.specs.Steps.{polynomial_on}
-use Rattle.log_checker.specs.Inner.ByText.{IsStepTo}
+use Rattle.log_checker.specs.Judged.{IsRead}
+use Rattle.log_checker.specs.Inner.ByText.{IsStepText, IsStepTo, StepGoesOn}
 use Rattle.log_checker.specs.Inner.Lines.{IsNamedBy, IsReached, IsReady}
 use Rattle.log_checker.specs.declared.due.Due.TheVariants as due
 use Rattle.log_checker.specs.declared.due.Task.{Task}
@@ -57,6 +60,31 @@ module _ (c : Construction) (construction : IsConstruction c) (known : List Var)
     writable = (fits, written c construction r (cut_own c construction known f q r own cut));
     is_step = record { step = cuts f r; leads = (cut, (refl, refl)); is = refl };
   }
+
+-- A CUT OF ZERO
+pub zero_cut : (c : Construction) (known : List Var) (left : ℕ) (text : List ℕ) (line : Line) (f : Powers × ℤ) (r : Summands) → IsRead text (Some line)
+    → line ≡ Cut f r → r ≡ [] → IsFactor f → IsByKnown known f.0 → IsStepText c known left [] text left []
+zero_cut c known left text line f r read is none factor by_known = record {
+  line = line;
+  writable = read.0;
+  spelt = read.1;
+  is_step = record {
+    step = cuts f [];
+    leads = (record { factor = factor; by_known = by_known; polynomial = record { in_order = tt; monomials = tt; norm_fits = omega arith }; exact = refl }, (refl, refl));
+    is = is ∙ ap (Cut f) none;
+  };
+}
+
+-- a chain at zero goes on by it, or stays as it was
+zero_goes_on : (c : Construction) (text : List ℕ) (e : Evidence) (q : Summands) → q ≡ [] → (y : Bool)
+    → (IsTrue y → IsStepText c e.known e.budget.left [] text e.budget.left []) → StepGoesOn c text e q e q y
+zero_goes_on c text e q none true h = (refl, subst (λ (r : Summands). IsStepText c e.known e.budget.left r text e.budget.left r) (sym none) (h refl))
+zero_goes_on c text e q none false h = (refl, refl)
+
+pub cut_goes_on : {E : Type 0} (c : Construction) (text : List ℕ) (e : Evidence) (q : Summands) → q ≡ [] → (result : Result Bool E)
+    → IfOk result (λ y. IsTrue y → IsStepText c e.known e.budget.left [] text e.budget.left []) → IfOk result (StepGoesOn c text e q e q)
+cut_goes_on c text e q none (Ok y) h = zero_goes_on c text e q none y h
+cut_goes_on c text e q none (Err x) h = tt
 
 -- THE POLYNOMIAL BEFORE IT
 module _ (q : Problem) (ready : IsReady q) where

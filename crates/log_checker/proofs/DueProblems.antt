@@ -31,7 +31,7 @@ use Rattle.log_checker.proofs.Places.{At, at_map, each_at}
 use Rattle.log_checker.proofs.Realised.{conditions_named, goals_named}
 use Rattle.log_checker.proofs.Verdicts.{Parts, parts_of, valid}
 
-map_twice : {A B D : Type 0} (f : B → D) (g : A → B) (xs : List A) → map (λ x. f (g x)) xs ≡ map f (map g xs)
+pub map_twice : {A B D : Type 0} (f : B → D) (g : A → B) (xs : List A) → map (λ x. f (g x)) xs ≡ map f (map g xs)
 map_twice f g [] = refl
 map_twice f g (x ∷ xs) = ap (λ ys. f (g x) ∷ ys) (map_twice f g xs)
 

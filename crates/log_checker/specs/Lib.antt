@@ -4,6 +4,7 @@ pub mod VerdictNumbers
 pub mod Laws
 pub mod Accepted
 pub mod Begun
+pub mod ProgramLogs
 pub mod Judged
 pub mod Checkers
 pub mod Checked

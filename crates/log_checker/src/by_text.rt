@@ -1,14 +1,15 @@
 //! Lines of moves and cuts judged by their text: the line that is due is written, and the bytes are
 //! compared with it, so that their polynomial is not read.
 
-ghost use Rattle.std.specs.Prelude.{◌≡◌, IfOk, IfSome, IsTrue};
+ghost use Rattle.std.specs.Prelude.{◌≡◌, [], ℕ, IfOk, IfSome, IsTrue};
 ghost use Rattle.elim_apply.specs.Kept.{AreKnownRows};
+ghost use Rattle.geo_terms.specs.Constructions.{Construction};
 ghost use Rattle.log_checker.specs.Inner.ByText.{IsStepText, IsStepTo};
 ghost use Rattle.log_checker.specs.Inner.Lines.{IsNamedBy};
 ghost use Rattle.proof_log.specs.Lines.{line_text};
 ghost use Rattle.proof_log.specs.Writable.{CanWritePolynomial, IsWritable};
 
-use crate::cutting::cut_result;
+use crate::cutting::{cut_result, is_by_known};
 use crate::line_of::line_of;
 use crate::moving::{move_result, ratio_move};
 use crate::reasons::Reason;
@@ -54,6 +55,23 @@ pub(crate) fn step_by_text(
         Some(poly) => Ok(Some((poly, budget.left))),
         None => Ok(None),
     }
+}
+
+/// Whether the bytes are those of a cut of zero. The line is as short as its head, so it is read as it
+/// is.
+pub(crate) fn is_cut_of_zero(alloc: Global, known: &Vars, bytes: &[u8]) -> Result<bool, NoMemory>
+    ensures { (c : Construction) (left : ℕ) → IfOk result (λ is. IsTrue is
+        → IsStepText c known.now left [] bytes.now left []) }
+{
+    let Some(Line::Cut { by, poly }) = line_of(alloc, bytes)? else {
+        return Ok(false);
+    };
+    if !poly.is_zero() {
+        return Ok(false);
+    }
+    // From here on it is known that the factor is one.
+    prove!(by.coef() != 0);
+    Ok(is_by_known(&known.items, &by))
 }
 
 /// The line with what stands before the first `:`, and with the zero polynomial behind it.

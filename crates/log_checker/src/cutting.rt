@@ -56,7 +56,7 @@ pub(crate) fn cut_result(
 }
 
 /// Whether all variables of the factor are known.
-fn is_by_known(known: &[Var], by: &Factor) -> bool
+pub(crate) fn is_by_known(known: &[Var], by: &Factor) -> bool
     ensures { IsTrue result ↔ IsByKnown known.now by.now.0 }
 {
     for j in 0..by.powers() {

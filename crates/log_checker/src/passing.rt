@@ -8,7 +8,7 @@ ghost use Rattle.log_checker.specs.Inner.Lines.{IsNamedBy};
 ghost use Rattle.proof_log.specs.Writable.{CanWritePolynomial, HasNoLineFeed};
 ghost use Rattle.proof_log.specs.declared.log.Line.{Line};
 
-use crate::by_text::step_by_text;
+use crate::by_text::{is_cut_of_zero, step_by_text};
 use crate::due::Due;
 use crate::evidence::Evidence;
 use crate::known_problem::KnownProblem;
@@ -70,6 +70,9 @@ fn step_passes(
         (StepGoesOn problem.old.steps bytes.now evidence.old poly.old evidence.new poly.new) }
     ensures problem { problem.new ≡ problem.old }
 {
+    if poly.is_zero() && bytes.starts_with(b"cut ") {
+        return is_cut_of_zero(alloc, &evidence.known, bytes);
+    }
     let left = evidence.budget.left;
     let KnownProblem { problem, numbers } = problem;
     let steps = &problem.steps;

@@ -13,7 +13,7 @@ use geo_base::Budget;
 use geo_points::{NoMemory, ParamId, PointId};
 use geo_poly::Var;
 use geo_poly::lists::{Polys, Values};
-use geo_sample::values_hold;
+use geo_sample::values_hold_uncounted;
 use geo_terms::{Step, Steps};
 use std::alloc::Global;
 
@@ -35,7 +35,7 @@ pub(crate) fn test_sample(
     if !are_variables_of(&values.items, &variables) {
         return Err(Stop::Rejected(Reason::WrongSample));
     }
-    if !values_hold(alloc, listed, values, budget)? {
+    if !values_hold_uncounted(alloc, listed, values, budget)? {
         return Err(Stop::Rejected(Reason::WrongSample));
     }
     Ok(())

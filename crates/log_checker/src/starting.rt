@@ -11,7 +11,7 @@ use crate::ending::own_variable;
 use crate::evidence::Evidence;
 use crate::reasons::Reason;
 use crate::stops::Stop;
-use elim_apply::start;
+use elim_apply::start_uncounted;
 use geo_base::Budget;
 use geo_conditions::Problem;
 use geo_points::TermId;
@@ -60,7 +60,7 @@ fn right_start(
     ensures refused { IfErr result (RefusesAt steps.now
         (before_start budget.old.left (tree_of steps.now.nodes term)) (Line.Start poly)) }
 {
-    let right = start(alloc, steps, term, budget)?;
+    let right = start_uncounted(alloc, steps, term, budget)?;
     if !right.same(&poly) {
         return Err(Stop::Rejected(Reason::WrongStart));
     }

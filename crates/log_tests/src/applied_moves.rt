@@ -44,7 +44,7 @@ fn applied(alloc: Global, steps: &Steps, p: &Poly, mv: &Move, left: u64) -> Resu
 }
 
 /// Two free points and the middle between them.
-fn with_middle(alloc: Global) -> Result<Steps, NoMemory>
+pub fn with_middle(alloc: Global) -> Result<Steps, NoMemory>
     ensures { IfOk result (λ s. length s.steps ≡ 3) }
 {
     let mut steps = Steps::new(alloc)?;

@@ -1,39 +1,9 @@
 //! What no clause says: that citations come where there is memory. Worked rows, each with its answer.
 
+use crate::logs::{FREE, MIDDLE};
 use geo_library::{CiteError, cite};
 use std::alloc::{AllocError, Global};
 use std::test::Fail;
-
-/// The middle of two points lies on their line.
-const MIDDLE: &[&str] = &[
-    "geolog 1",
-    "| point A",
-    "| point B",
-    "| midpoint M A B",
-    "| prove { collinear A M B }",
-    "goal 1 collinear A M B",
-    "start : -1*S0.1.2",
-    "cut -1 : +1*S0.1.2",
-    "point 2 : 0",
-    "end",
-    "sample x0=0 y0=0 x1=0 y1=0",
-    "verdict proved",
-];
-
-/// Three free points need not lie on a line.
-const FREE: &[&str] = &[
-    "geolog 1",
-    "| point A",
-    "| point B",
-    "| point C",
-    "| prove { collinear A B C }",
-    "goal 1 collinear A B C",
-    "start : +1*S0.1.2",
-    "coords : +1*x0*y1 -1*x0*y2 -1*y0*x1 +1*y0*x2 +1*x1*y2 -1*y1*x2",
-    "end",
-    "sample x0=0 y0=0 x1=0 y1=1 x2=1 y2=0",
-    "verdict false 1",
-];
 
 /// A point of a line lies on it.
 const ONLINE: &[&str] = &[

@@ -11,6 +11,8 @@ mod citing;
 #[cfg(test)]
 mod lines;
 #[cfg(test)]
+mod logs;
+#[cfg(test)]
 mod next_lines;
 #[cfg(test)]
 mod printing;

@@ -4,35 +4,17 @@ ghost use Rattle.std.specs.Prelude.{◌≡◌, IfOk, length};
 ghost use Rattle.fraction_poly.specs.TableRows.{HasPointsBelow};
 ghost use Rattle.geo_poly.specs.PolynomialVariables.{AllVariables};
 
+use crate::applied_moves::with_middle;
 use elim_apply::{ApplyError, Move};
 use geo_base::Budget;
 use geo_chain::{next_line, next_move};
 use geo_points::{NoMemory, PointId};
 use geo_poly::lists::{Factors, Vars};
 use geo_poly::{Factor, Poly, Var};
-use geo_terms::{Node, Step, Steps};
+use geo_terms::{Step, Steps};
 use proof_log::Line;
 use std::alloc::Global;
 use std::test::Fail;
-
-/// Two free points and the middle between them.
-fn with_middle(alloc: Global) -> Result<Steps, NoMemory>
-    ensures { IfOk result (λ s. length s.steps ≡ 3) }
-{
-    let mut steps = Steps::new(alloc)?;
-    let a = steps.push(Step::Point)?;
-    let b = steps.push(Step::Point)?;
-    let one = steps.intern(Node::Int(1))?;
-    let two = steps.intern(Node::Int(2))?;
-    let r = steps.intern(Node::Div(one, two))?;
-    steps.push(Step::Pratio {
-        w: a,
-        u: a,
-        v: b,
-        r,
-    })?;
-    Ok(steps)
-}
 
 /// The area of the three points, times -1.
 fn turned_area(alloc: Global) -> Result<Poly, NoMemory>

@@ -1,5 +1,6 @@
 //! Worked proofs. What is expected was written by a plain reference, and the first one by hand.
 
+use crate::logs;
 use geo_base::Text;
 use log_checker::CheckError;
 use proof_printer::text;
@@ -15,20 +16,7 @@ struct Worked {
 
 /// The middle of two points lies on their line.
 const MIDDLE: Worked = Worked {
-    log: &[
-        "geolog 1",
-        "| point A",
-        "| point B",
-        "| midpoint M A B",
-        "| prove { collinear A M B }",
-        "goal 1 collinear A M B",
-        "start : -1*S0.1.2",
-        "cut -1 : +1*S0.1.2",
-        "point 2 : 0",
-        "end",
-        "sample x0=0 y0=0 x1=0 y1=0",
-        "verdict proved",
-    ],
+    log: logs::MIDDLE,
     proof: &[
         "point A",
         "point B",
@@ -47,23 +35,7 @@ const MIDDLE: Worked = Worked {
 
 /// Two conditions on one number, and a goal that fails.
 const NUMBERS: Worked = Worked {
-    log: &[
-        "geolog 1",
-        "| param r",
-        "| prove { equal { div { 1 } { r } } { div { 1 } { sub { r } { 1 } } } }",
-        "condition 1 nonzero { r }",
-        "start : +1*t0",
-        "end",
-        "condition 2 nonzero { sub { r } { 1 } }",
-        "start : +1*t0 -1",
-        "end",
-        "goal 1 equal { div { 1 } { r } } { div { 1 } { sub { r } { 1 } } }",
-        "start : -1",
-        "cut -1 : +1",
-        "end",
-        "sample t0=2",
-        "verdict false 1",
-    ],
+    log: logs::NUMBERS,
     proof: &[
         "param r",
         "prove { equal { div { 1 } { r } } { div { 1 } { sub { r } { 1 } } } }",
@@ -84,17 +56,7 @@ const NUMBERS: Worked = Worked {
 
 /// A crossing of a line with itself.
 const ITSELF: Worked = Worked {
-    log: &[
-        "geolog 1",
-        "| point A",
-        "| point B",
-        "| inter X A B A B",
-        "| prove { collinear A B X }",
-        "condition 1 not_parallel A B A B",
-        "start : 0",
-        "end",
-        "verdict impossible 1",
-    ],
+    log: logs::ITSELF,
     proof: &[
         "point A",
         "point B",
@@ -192,22 +154,7 @@ const CIRCLE: Worked = Worked {
 
 /// The centroid by weights, over a hidden point, in version 1.
 const HIDDEN: Worked = Worked {
-    log: &[
-        "geolog 1",
-        "| point A",
-        "| point B",
-        "| point C",
-        "| weights X A B C div { 1 } { 3 } div { 1 } { 3 }",
-        "| prove { equal { signed_area3 X B C } { signed_area3 X C A } }",
-        "goal 1 equal { signed_area3 X B C } { signed_area3 X C A }",
-        "start : +1*S0.2.4 +1*S1.2.4",
-        "point 4 : -1*S0.1.2 +3*S0.2.3 +3*S1.2.3",
-        "cut -1 : +1*S0.1.2 -3*S0.2.3 -3*S1.2.3",
-        "point 3 : 0",
-        "end",
-        "sample x0=0 y0=0 x1=0 y1=0 x2=0 y2=0",
-        "verdict proved",
-    ],
+    log: logs::HIDDEN,
     proof: &[
         "point A",
         "point B",
@@ -231,20 +178,7 @@ const HIDDEN: Worked = Worked {
 
 /// The same by a step of its own, in version 2.
 const WEIGHTED: Worked = Worked {
-    log: &[
-        "geolog 2",
-        "| point A",
-        "| point B",
-        "| point C",
-        "| weights X A B C div { 1 } { 3 } div { 1 } { 3 }",
-        "| prove { equal { signed_area3 X B C } { signed_area3 X C A } }",
-        "goal 1 equal { signed_area3 X B C } { signed_area3 X C A }",
-        "start : +1*S0.2.3 +1*S1.2.3",
-        "point 3 : 0",
-        "end",
-        "sample x0=0 y0=0 x1=0 y1=0 x2=0 y2=0",
-        "verdict proved",
-    ],
+    log: logs::WEIGHTED,
     proof: &[
         "point A",
         "point B",

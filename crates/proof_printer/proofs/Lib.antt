@@ -9,3 +9,6 @@ pub mod PrintableLogs
 pub mod AcceptedProofs
 pub mod MadeNames
 pub mod OneProof
+pub mod StatusNumbers
+pub mod Listed
+pub mod OneDue

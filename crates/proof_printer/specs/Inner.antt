@@ -4,3 +4,4 @@ pub mod Colons
 pub mod Printing
 pub mod Reading
 pub mod Heads
+pub mod ConditionLines

@@ -15,8 +15,11 @@ use geo_poly::Var;
 use std::alloc::Global;
 use std::collections::BTreeMap;
 
-/// How many guesses are kept.
+/// How many guesses are kept at most.
 const GUESSES: usize = 512;
+
+/// In a text of fewer bytes nothing is guessed.
+const SHORT: usize = 64;
 
 /// A variable and its name.
 #[derive(Drop)]
@@ -39,13 +42,13 @@ pub(crate) struct Met {
 }
 
 impl Met {
-    /// None yet.
-    pub fn new(alloc: Global) -> Result<Met, NoMemory>
+    /// None yet, in a text of so many bytes.
+    pub fn new(alloc: Global, bytes: usize) -> Result<Met, NoMemory>
         ensures none { IfOk result (λ met. keys met.places ≡ []) }
         ensures met { (n : Naming) → IfOk result (AreMet n) }
     {
         let mut guesses = Vec::new(alloc);
-        guesses.resize(GUESSES, 0)?;
+        guesses.resize(guesses_in(bytes), 0)?;
         Ok(Met {
             places: BTreeMap::new(alloc),
             names: Vec::new(alloc),
@@ -102,6 +105,11 @@ impl Met {
         }
     }
 
+    /// Where the place of a variable is kept.
+    fn guess_of(&self, variable: Var) -> usize {
+        mixed_points(variable) as usize % self.guesses.len().max(1)
+    }
+
     /// The name at the place that is kept.
     fn guessed(&self, guess: usize) -> Option<&Named>
         ensures { IfSome result (λ named. Contains self.now.names.items named.now) }
@@ -127,7 +135,7 @@ impl Namer {
             (keys met.new.places ≡ insert_key var_cmp (keys met.old.places) variable) }
         ensures met { OnOk result (AreMet (naming_in self.now) met.new) }
     {
-        let guess = guess_of(variable);
+        let guess = met.guess_of(variable);
         if let Some(named) = self.met_name(met, variable, guess) {
             out.extend_from_slice(&named.name.bytes)?;
             return Ok(());
@@ -175,9 +183,14 @@ impl Namer {
     }
 }
 
-/// Where the place of a variable is kept.
-fn guess_of(variable: Var) -> usize {
-    mixed_points(variable) as usize % GUESSES
+/// How many guesses are kept for a text of so many bytes: fewer than it has, and none where it has so
+/// few variables that they are found at once.
+fn guesses_in(bytes: usize) -> usize {
+    if bytes < SHORT {
+        0
+    } else {
+        (bytes / 4).min(GUESSES)
+    }
 }
 
 /// A number that tells most variables apart.

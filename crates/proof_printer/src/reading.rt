@@ -53,7 +53,7 @@ impl Namer {
             ≡ out.old.items ++ polynomial_text (naming_in self.now) q) }
         ensures kept { (q : Summands) → IsTextOf text.now q → IfOk result (λ before. IsKept before q) }
     {
-        let mut met = Met::new(alloc)?;
+        let mut met = Met::new(alloc, text.len())?;
         self.push_terms(alloc, out, &mut met, text)?;
         let items = met.places.into_keys().collect(alloc)?;
         Ok(Before {

@@ -3,9 +3,9 @@ use Rattle.std.specs.Prelude.{◌≡◌, ◌⊎◌, ◌≤◌, ℕ, List, Option
 use Rattle.geo_base.specs.Devices.{HasRisen}
 use Rattle.geo_cli.specs.declared.order.Command.{Command}
 use Rattle.geo_cli.specs.declared.order.Command.TheVariants.{Bench, Check, Cite, Figure, Place, Text}
-use Rattle.geo_answers.specs.declared.status.Status.{Status}
-use Rattle.geo_answers.specs.declared.status.Status.TheVariants.{ReadFault}
-use Rattle.geo_answers.specs.Due.{Due}
+use Rattle.proof_printer.specs.declared.status.Status.{Status}
+use Rattle.proof_printer.specs.declared.status.Status.TheVariants.{ReadFault}
+use Rattle.proof_printer.specs.Due.{Due}
 use Rattle.geo_cli.specs.Due.{IsCommandDue, IsReadDue}
 use Rattle.geo_cli.specs.Run.{IsAnswered, RunsOut}
 

@@ -1,14 +1,14 @@
 -- How the log of a generated program is told.
 use Rattle.std.specs.Prelude.{◌≡◌, ℕ, List, [], ◌∷◌, ◌++◌, codes}
 use Rattle.geo_cli.specs.declared.reports.Report.{Report}
-use Rattle.geo_answers.specs.declared.status.Status.{Status}
-use Rattle.geo_answers.specs.Due.{Due}
-use Rattle.geo_answers.specs.Status.{ending_status, verdict_status}
+use Rattle.proof_printer.specs.declared.status.Status.{Status}
+use Rattle.proof_printer.specs.Due.{Due}
+use Rattle.proof_printer.specs.Status.{ending_status, verdict_status}
 use Rattle.geo_cli.specs.Due.{count_line, ending_text}
 use Rattle.geo_logs.specs.Ends.{Ending}
 use Rattle.geo_program.specs.WellFormed.{Source}
 use Rattle.geo_prover.specs.declared.summary.Summary.{Summary}
-use Rattle.geo_prover.specs.Proving.{IsLogOf}
+use Rattle.log_checker.specs.ProgramLogs.{IsLogOf}
 use Rattle.proof_log.specs.declared.log.Line.{Line}
 use Rattle.proof_log.specs.Lines.{line_text, verdict_text}
 

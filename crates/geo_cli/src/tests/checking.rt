@@ -4,9 +4,9 @@ use super::{
     expect_rows,
 };
 use crate::run::run;
-use geo_answers::Status;
 use geo_base::{MemSink, MemSource};
 use geo_poly::Which;
+use proof_printer::Status;
 use std::process::Abort;
 use std::test::Fail;
 

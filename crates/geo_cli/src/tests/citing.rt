@@ -1,6 +1,6 @@
 //! Runs of `cite`. The texts are those of the specification's rows, and of a plain reference.
 use super::{FREE_POINTS_LOG, MIDPOINT_LOG, Row, expect_row};
-use geo_answers::Status;
+use proof_printer::Status;
 use std::process::Abort;
 use std::test::Fail;
 

@@ -1,6 +1,6 @@
 //! Runs of `discover`. The texts are those of a plain reference.
 use super::{CROSSING, MIDPOINT, Row, expect_row, expect_rows};
-use geo_answers::Status;
+use proof_printer::Status;
 use std::test::Fail;
 
 const FIRST_RELATION: &[u8] =

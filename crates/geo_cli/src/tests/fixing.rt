@@ -1,7 +1,7 @@
 //! Runs of `fixed`. The texts are those of a plain reference.
 use super::{CROSSING, FREE_POINTS, MIDPOINT, QUOTIENTS, Row, TOO_LARGE, expect_row, expect_rows};
-use geo_answers::Status;
 use geo_poly::Which;
+use proof_printer::Status;
 use std::test::Fail;
 
 const KNOWN_PARAMETER: &[u8] =

@@ -1,8 +1,8 @@
 //! Runs of `place` and `figure`. The texts are those of the specification's rows, and of a plain
 //! reference.
 use super::{Row, expect_rows};
-use geo_answers::Status;
 use geo_poly::Which;
+use proof_printer::Status;
 use std::test::Fail;
 
 // A run with this word.

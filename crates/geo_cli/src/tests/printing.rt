@@ -1,8 +1,8 @@
 //! Readable proofs, and what the numbers of generated programs give.
 use super::{FREE_POINTS_LOG, MIDPOINT_LOG, Row, expect_rows};
 use crate::run::run;
-use geo_answers::Status;
 use geo_base::{MemSink, MemSource};
+use proof_printer::Status;
 use std::test::Fail;
 
 const MIDPOINT_PROOF: &[u8] =

@@ -1,7 +1,7 @@
 //! The costliest programs of the first form that a search found: one whose statement fails, and a
 //! theorem.
 use super::{Row, expect_rows};
-use geo_answers::Status;
+use proof_printer::Status;
 use std::test::Fail;
 
 const MILLION: &[&str] = &["prove", "--steps", "1000000"];

@@ -2,8 +2,8 @@
 use Rattle.std.specs.Prelude.{ℕ}
 use Rattle.geo_program.specs.WellFormed.{Source}
 use Rattle.geo_logs.specs.Moves.{spent, too_large}
-use Rattle.log_maker.specs.declared.errors.ProveError.{ProveError}
-use Rattle.log_maker.specs.declared.errors.ProveError.TheVariants as stopped
+use Rattle.geo_chain.specs.declared.errors.ProveError.{ProveError}
+use Rattle.geo_chain.specs.declared.errors.ProveError.TheVariants as stopped
 use Rattle.geo_discover.specs.declared.errors.FixedError.{FixedError}
 use Rattle.geo_discover.specs.declared.errors.FixedError.TheVariants.{Spent, TooLarge, NoMemory}
 use Rattle.geo_discover.specs.FixedEnds.{StopsAtLine}

@@ -11,8 +11,8 @@ use Rattle.geo_logs.specs.Moves.{spent, too_large}
 use Rattle.proof_log.specs.declared.log.Verdict.{Verdict}
 use Rattle.proof_log.specs.declared.log.Verdict.TheVariants.{False, Impossible as NeverMet, Proved}
 use Rattle.proof_log.specs.Lines.{log_text}
-use Rattle.log_maker.specs.declared.errors.ProveError.{ProveError}
-use Rattle.log_maker.specs.declared.errors.ProveError.TheVariants as stopped
+use Rattle.geo_chain.specs.declared.errors.ProveError.{ProveError}
+use Rattle.geo_chain.specs.declared.errors.ProveError.TheVariants as stopped
 use Rattle.geo_discover.specs.declared.errors.DiscoverError.{DiscoverError}
 use Rattle.geo_discover.specs.declared.errors.DiscoverError.TheVariants.{Impossible, Spent, TooLarge, TooLong, WriteFault, NoMemory}
 use Rattle.geo_discover.specs.declared.examining.Judgement.{Judgement}

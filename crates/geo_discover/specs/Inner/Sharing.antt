@@ -16,18 +16,17 @@ use Rattle.geo_program.specs.Relations.{with_statement}
 use Rattle.geo_program.specs.WellFormed.{Source}
 use Rattle.geo_terms.specs.Constructions.{Construction}
 use Rattle.proof_log.specs.declared.log.Line.{Line}
-use Rattle.proof_log.specs.declared.log.Line.TheVariants.{Header, Program as ProgramLine}
 use Rattle.proof_log.specs.declared.log.Verdict.{Verdict}
-use Rattle.log_checker.specs.Subjects.{source_lines}
 use Rattle.proof_log.specs.Lines.{log_text}
-use Rattle.log_maker.specs.declared.errors.ProveError.{ProveError}
-use Rattle.log_maker.specs.declared.errors.ProveError.TheVariants as stopped
-use Rattle.log_maker.specs.declared.frame.Frame.TheVariants.{Full}
-use Rattle.log_maker.specs.Halting.{Finishes, Halts}
-use Rattle.log_maker.specs.InFrame.{IsNextIn}
-use Rattle.log_maker.specs.Parts.{Continues, Part, conditions_part, goals_part, items_of}
-use Rattle.log_maker.specs.Sizes.{Fits}
-use Rattle.log_maker.specs.Written.{State}
+use Rattle.geo_chain.specs.declared.errors.ProveError.{ProveError}
+use Rattle.geo_chain.specs.declared.errors.ProveError.TheVariants as stopped
+use Rattle.geo_chain.specs.declared.frame.Frame.TheVariants.{Full}
+use Rattle.geo_chain.specs.FirstLines.{program_lines}
+use Rattle.geo_chain.specs.Halting.{Finishes, Halts}
+use Rattle.geo_chain.specs.InFrame.{IsNextIn}
+use Rattle.geo_chain.specs.Parts.{Continues, Part, conditions_part, goals_part, items_of}
+use Rattle.geo_chain.specs.Sizes.{Fits}
+use Rattle.geo_chain.specs.Written.{State}
 use Rattle.geo_discover.specs.declared.examining.Judgement.{Judgement}
 use Rattle.geo_discover.specs.declared.examining.Judgement.TheVariants as judged
 use Rattle.geo_discover.specs.declared.figure.Figure.{Figure}
@@ -82,10 +81,6 @@ AreWorked c conditions steps before known ends (Stopped error bytes) =
 AreWorked c conditions steps before known ends Unshared = Unit {0}
 
 -- THE FIGURE
--- the lines of a log that come before its chains
-abbrev pub program_lines : Source → List Line
-program_lines p = Header 2 ∷ map ProgramLine (source_lines p)
-
 -- with each candidate they have so many bytes at most, beside its text
 abbrev pub IsFrontOf : Source → ℕ → Type 0
 IsFrontOf p bytes = (s : Statement) → text_length (program_lines (with_statement p s)) ≤ bytes + length (candidate_text p s)

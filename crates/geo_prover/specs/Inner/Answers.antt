@@ -4,10 +4,10 @@ use Rattle.geo_base.specs.Devices.{HasRisen}
 use Rattle.geo_logs.specs.Ends.{too_long}
 use Rattle.geo_logs.specs.Moves.{spent, too_large}
 use Rattle.geo_program.specs.WellFormed.{Source}
-use Rattle.log_maker.specs.declared.errors.ProveError.{ProveError}
-use Rattle.log_maker.specs.declared.errors.ProveError.TheVariants.{TooLarge, Spent, TooLong, WriteFault, NoMemory}
+use Rattle.geo_chain.specs.declared.errors.ProveError.{ProveError}
+use Rattle.geo_chain.specs.declared.errors.ProveError.TheVariants.{TooLarge, Spent, TooLong, WriteFault, NoMemory}
 use Rattle.geo_prover.specs.Proving.{WritesToStop, WritesLog, WritesPart}
-use Rattle.log_maker.specs.Written.{State}
+use Rattle.geo_chain.specs.Written.{State}
 
 -- the error, and what was written
 abbrev pub IsAnswerOf : Source → ℕ → State → State → ProveError → Type 0

@@ -1,5 +1,5 @@
 use Rattle.std.proofs.Common.{rules, subst}
-use Rattle.geo_answers.specs.Due.{IsAcceptedText}
+use Rattle.proof_printer.specs.Due.{IsAcceptedText}
 use Rattle.geo_program.specs.Programs.{source_of}
 use Rattle.geo_c.proofs.Accepted.{acceptance_told}
 use Rattle.geo_c.proofs.checking.accept.Goals as goal

@@ -1,5 +1,5 @@
 use Rattle.std.proofs.Common.{◌∙◌, ap, Err}
-use Rattle.geo_answers.specs.declared.status.Status.TheVariants.{Syntax}
+use Rattle.proof_printer.specs.declared.status.Status.TheVariants.{Syntax}
 use Rattle.geo_lexer.specs.declared.token_types.Fault.{Fault}
 use Rattle.geo_c.proofs.Refused.{refusal_due}
 use Rattle.geo_c.proofs.proving.write_log.Goals as goal

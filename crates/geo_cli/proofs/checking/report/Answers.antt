@@ -6,7 +6,7 @@ use Rattle.geo_cli.proofs.Reported.{judged_err, judged_ok}
 use Rattle.geo_cli.proofs.checking.report.Goals as goal
 
 pub returns-in-Ok-clause-answers : goal.returns-in-Ok-clause-answers
-returns-in-Ok-clause-answers g c = λ steps bytes h. c.accept.ensures.answers steps bytes (judged_ok bytes steps _ _ c.in-Ok.is h).accepts
+returns-in-Ok-clause-answers g c = λ steps bytes h. c.report_accepted.ensures.answers steps bytes (judged_ok bytes steps _ _ c.in-Ok.is h).accepts
 
 pub returns-in-Err-clause-answers : goal.returns-in-Err-clause-answers
 returns-in-Err-clause-answers g c = λ steps bytes h.

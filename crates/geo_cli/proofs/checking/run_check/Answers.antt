@@ -17,4 +17,4 @@ returns-in-Ok-clause-taken g c =
 
 pub returns-in-Err-TooLong-clause-answers : goal.returns-in-Err-TooLong-clause-answers
 returns-in-Err-TooLong-clause-answers g c =
-    of_long log_limit (due_for Check c.args.steps) _ _ _ _ _ _ _ _ _ (c.judge.ensures.too_long (search rules)) c.answer.ensures.answered
+    of_long log_limit (due_for Check c.args.steps) _ _ _ _ _ _ _ _ _ (c.judge_input.ensures.too_long (search rules)) c.answer.ensures.answered

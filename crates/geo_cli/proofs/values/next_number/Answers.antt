@@ -9,7 +9,7 @@ returns-in_err-number-clause-none c = λ _.
     (λ decimal fits.
     no_result c.read_decimal.result c.ok.result (decimal_value c.split_run.result.0.now) (c.read_decimal.ensures.read decimal fits) c.ok.ensures.value c.in_err-number.was)
 
-pub returns-else-is_text_of-clause-none : goal.returns-else-is_text_of-clause-none
-returns-else-is_text_of-clause-none c = λ _.
+pub returns-else-is_canonical-clause-none : goal.returns-else-is_canonical-clause-none
+returns-else-is_canonical-clause-none c = λ _.
     integer_misspelt c.args.bytes.now c.split_run.result.0.now c.split_run.result.1.now c.split_run.ensures.split c.split_run.ensures.all c.split_run.ensures.stops
-    _ (search rules) (λ is. let t = c.is_text_of.ensures.1 is in let f = c.if-is_text_of.false in let e : true ≡ false = sym t ∙ f in cc)
+    _ (search rules) (λ is. let t = c.is_canonical.ensures.1 is in let f = c.if-is_canonical.false in let e : true ≡ false = sym t ∙ f in cc)

@@ -1,20 +1,20 @@
 use Rattle.std.proofs.Common.{◌+◌, ◌∙◌, Some, List, [], ◌∷◌, length, map, refl, ap, subst, rules}
-use Rattle.geo_conditions.specs.Lists.{ItemForm, goal_item}
+use Rattle.geo_conditions.specs.Lists.{goal_item}
 use Rattle.geo_conditions.specs.Problems.{form_of_problem}
 use Rattle.geo_lowering.specs.declared.version.Version.TheVariants.{Two}
 use Rattle.geo_program.specs.Programs.{source_of}
 use Rattle.geo_program.specs.Relations.{with_statement}
 use Rattle.geo_program.proofs.Propositions.{program_well_formed}
 use Rattle.log_checker.specs.Subjects.{log_item}
-use Rattle.log_maker.specs.declared.frame.Frame.TheVariants.{Full}
-use Rattle.log_maker.specs.Parts.{goals_part, items_of}
-use Rattle.log_maker.specs.Sizes.{Fits, with_text}
-use Rattle.log_maker.specs.Written.{first_state, state}
+use Rattle.geo_chain.specs.declared.frame.Frame.TheVariants.{Full}
+use Rattle.geo_chain.specs.Parts.{goals_part, items_of}
+use Rattle.geo_chain.specs.Sizes.{Fits, with_text}
+use Rattle.geo_chain.specs.Written.{first_state, state}
 use Rattle.geo_discover.specs.declared.figure.Worked.{Worked}
 use Rattle.geo_discover.specs.Inner.Sharing.{AreWorked}
 use Rattle.geo_discover.proofs.CandidateForms.{candidate_formed}
 use Rattle.geo_discover.proofs.ConditionsShared.{figure_kept}
-use Rattle.geo_discover.proofs.Sharing.{goal_ready, goal_writable, past_conditions, said_judged, shared_about, stopped_judged}
+use Rattle.geo_discover.proofs.Sharing.{goal_ready, goal_taken, goal_writable, past_conditions, said_judged, shared_about, stopped_judged}
 use Rattle.geo_discover.proofs.examining.judge_behind.Goals as goal
 
 pub judge_written-requires-clause-ready : goal.judge_written-requires-clause-ready
@@ -29,7 +29,7 @@ judge_written-requires-clause-ready c =
     let goal = c.args.goal.now in
     let ys = items_of goal.terms.nodes goal.goals in
     let own = shared_about p h.first s (form_of_problem f.problem) f.problem.conditions f.problem.goals h.candidate c.requires.candidate
-    h.problem ys (ap (λ (is : List ItemForm). map log_item is) c.requires.goal.item) in
+    h.problem ys (goal_taken p s c.args.goal.now.terms.nodes c.args.goal.now.goals c.requires.goal.item) in
     goal_ready (with_statement p s) k xs goal.terms.nodes goal.goals w own c.requires.goal.stored
 
 pub judge_written-requires-clause-writable : goal.judge_written-requires-clause-writable
@@ -44,7 +44,7 @@ judge_written-requires-clause-writable c =
     let goal = c.args.goal.now in
     let ys = items_of goal.terms.nodes goal.goals in
     let own = shared_about p h.first s (form_of_problem f.problem) f.problem.conditions f.problem.goals h.candidate c.requires.candidate
-    h.problem ys (ap (λ (is : List ItemForm). map log_item is) c.requires.goal.item) in
+    h.problem ys (goal_taken p s c.args.goal.now.terms.nodes c.args.goal.now.goals c.requires.goal.item) in
     let told = subst (λ (x : Worked). AreWorked k xs f.steps (length p.commands + 2) f.findings.known f.findings.ends x) c.in-Met.is h.worked in
     let r = first_state (Some []) 0 in
     let u = state c.write_again.new.self (Some c.write_again.new.sink) 0 in
@@ -66,7 +66,7 @@ returns-in_ok-judgement-in-Ok-clause-judged c =
     let goal = c.args.goal.now in
     let ys = items_of goal.terms.nodes goal.goals in
     let own = shared_about p h.first s (form_of_problem f.problem) f.problem.conditions f.problem.goals h.candidate c.requires.candidate
-    h.problem ys (ap (λ (is : List ItemForm). map log_item is) c.requires.goal.item) in
+    h.problem ys (goal_taken p s c.args.goal.now.terms.nodes c.args.goal.now.goals c.requires.goal.item) in
     let told = subst (λ (x : Worked). AreWorked k xs f.steps (length p.commands + 2) f.findings.known f.findings.ends x) c.in-Met.is h.worked in
     let r = first_state (Some []) 0 in
     let u = state c.write_again.new.self (Some c.write_again.new.sink) 0 in

@@ -1,6 +1,6 @@
 use Rattle.std.proofs.Common.{◌≡◌, ◌+◌, List, [], ◌∷◌, ◌++◌, length, map, refl, ap, subst, arith, rules}
 use Rattle.std.proofs.lemmas.Option.{IfSome_then}
-use Rattle.geo_conditions.specs.Lists.{ItemForm, goal_item}
+use Rattle.geo_conditions.specs.Lists.{goal_item}
 use Rattle.geo_conditions.specs.Problems.{form_of_problem}
 use Rattle.geo_logs.specs.Ends.{text_length}
 use Rattle.geo_lowering.specs.declared.version.Version.TheVariants.{Two}
@@ -9,13 +9,14 @@ use Rattle.geo_program.specs.Relations.{with_statement}
 use Rattle.geo_program.proofs.Propositions.{program_well_formed}
 use Rattle.proof_log.specs.Lines.{log_text}
 use Rattle.log_checker.specs.Subjects.{log_item}
-use Rattle.log_maker.specs.declared.size.Size.{Size}
-use Rattle.log_maker.specs.Parts.{items_of}
+use Rattle.geo_chain.specs.FirstLines.{program_lines}
+use Rattle.geo_chain.specs.declared.size.Size.{Size}
+use Rattle.geo_chain.specs.Parts.{items_of}
 use Rattle.geo_discover.specs.declared.figure.Worked.{Worked}
-use Rattle.geo_discover.specs.Inner.Sharing.{AreWorked, program_lines}
+use Rattle.geo_discover.specs.Inner.Sharing.{AreWorked}
 use Rattle.geo_discover.proofs.CandidateForms.{candidate_formed}
 use Rattle.geo_discover.proofs.ConditionsShared.{figure_kept}
-use Rattle.geo_discover.proofs.Sharing.{goal_ready, lengths_judged, shared_about, stopped_judged}
+use Rattle.geo_discover.proofs.Sharing.{goal_ready, goal_taken, lengths_judged, shared_about, stopped_judged}
 use Rattle.geo_discover.proofs.examining.judge_behind_front.Goals as goal
 
 pub judge_unwritten-requires-clause-ready : goal.judge_unwritten-requires-clause-ready
@@ -30,7 +31,7 @@ judge_unwritten-requires-clause-ready c =
     let goal = c.args.goal.now in
     let ys = items_of goal.terms.nodes goal.goals in
     let own = shared_about p h.first s (form_of_problem f.problem) f.problem.conditions f.problem.goals h.candidate c.requires.candidate
-    h.problem ys (ap (λ (is : List ItemForm). map log_item is) c.requires.goal.item) in
+    h.problem ys (goal_taken p s c.args.goal.now.terms.nodes c.args.goal.now.goals c.requires.goal.item) in
     goal_ready (with_statement p s) k xs goal.terms.nodes goal.goals w own c.requires.goal.stored
 
 pub returns-in_ok-log-in-Met-clause-judged : goal.returns-in_ok-log-in-Met-clause-judged
@@ -45,7 +46,7 @@ returns-in_ok-log-in-Met-clause-judged c =
     let goal = c.args.goal.now in
     let ys = items_of goal.terms.nodes goal.goals in
     let own = shared_about p h.first s (form_of_problem f.problem) f.problem.conditions f.problem.goals h.candidate c.requires.candidate
-    h.problem ys (ap (λ (is : List ItemForm). map log_item is) c.requires.goal.item) in
+    h.problem ys (goal_taken p s c.args.goal.now.terms.nodes c.args.goal.now.goals c.requires.goal.item) in
     let told = subst (λ (x : Worked). AreWorked k xs f.steps (length p.commands + 2) f.findings.known f.findings.ends x) c.in-Met.is h.worked in
     let front = program_lines (with_statement p s) in
     let text = c.in-Met.text in

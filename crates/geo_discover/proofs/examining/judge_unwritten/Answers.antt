@@ -1,8 +1,8 @@
 use Rattle.std.proofs.Common.{Option, Some, subst, sym}
 use Rattle.std.specs.Prelude.{IfSome}
-use Rattle.log_maker.specs.declared.frame.Frame.TheVariants.{Full}
-use Rattle.log_maker.specs.Tasks.{goals_from}
-use Rattle.log_maker.specs.Written.{state}
+use Rattle.geo_chain.specs.declared.frame.Frame.TheVariants.{Full}
+use Rattle.geo_chain.specs.Tasks.{goals_from}
+use Rattle.geo_chain.specs.Written.{state}
 use Rattle.geo_discover.specs.declared.examining.Judgement.{Judgement}
 use Rattle.geo_discover.specs.Inner.Sharing.{IsSaid}
 use Rattle.geo_discover.proofs.Unwritten.{bounded_takes, unwritten_said}

@@ -1,6 +1,6 @@
 use Rattle.std.proofs.Common.{Some, inl, inr, refl}
 use Rattle.std.proofs.lemmas.Result.{IfOk-weaker}
-use Rattle.log_maker.specs.Written.{state}
+use Rattle.geo_chain.specs.Written.{state}
 use Rattle.geo_discover.proofs.examining.judge_written.Goals as goal
 
 pub returns-in-Ok-clause-said : goal.returns-in-Ok-clause-said

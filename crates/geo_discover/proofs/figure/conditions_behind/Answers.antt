@@ -1,6 +1,6 @@
 use Rattle.std.proofs.Common.{◌≡◌, ◌∙◌, ℕ, Some, List, [], length, refl, sym, ap, subst, arith}
-use Rattle.log_maker.specs.Parts.{items_of}
-use Rattle.log_maker.specs.Written.{state}
+use Rattle.geo_chain.specs.Parts.{items_of}
+use Rattle.geo_chain.specs.Written.{state}
 use Rattle.geo_discover.specs.declared.figure.Worked.{Worked}
 use Rattle.geo_discover.specs.Inner.Sharing.{AreWorked, stopped_by}
 use Rattle.geo_discover.proofs.ConditionsShared.{at_none_is, halt_shared, met_shared}

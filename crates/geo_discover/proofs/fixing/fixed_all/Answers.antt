@@ -1,9 +1,9 @@
 use Rattle.std.proofs.Common.{◌<◌, ◌^◌, ◌∙◌, arith}
 use Rattle.geo_program.specs.Programs.{source_of}
 use Rattle.geo_program.proofs.Propositions.{program_well_formed}
-use Rattle.geo_prover.proofs.Finishing.{ready}
 use Rattle.geo_discover.specs.Inner.Fixing.{fixed_by}
 use Rattle.geo_discover.proofs.FixedAnswers.{answered, counted_takes, decided, ended, if_err}
+use Rattle.geo_discover.proofs.OwnLogs.{ready}
 use Rattle.geo_discover.proofs.fixing.fixed_all.Goals as goal
 
 pub work-requires-clause-ready : goal.work-requires-clause-ready

@@ -1,6 +1,6 @@
 use Rattle.std.proofs.lemmas.Result.{IfErr-at_err}
 use Rattle.geo_program.specs.Programs.{source_of}
-use Rattle.log_maker.specs.Written.{first_state}
+use Rattle.geo_chain.specs.Written.{first_state}
 use Rattle.geo_prover.proofs.Finishing.{faults_heard, faults_kept}
 use Rattle.geo_prover.proofs.proving.prove.Goals as goal
 

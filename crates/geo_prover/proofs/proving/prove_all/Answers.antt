@@ -1,15 +1,20 @@
-use Rattle.std.proofs.Common.{◌<◌, ◌^◌, [], refl, arith}
+use Rattle.std.proofs.Common.{◌<◌, ◌^◌, [], refl, ◌∙◌, arith}
 use Rattle.geo_program.specs.Programs.{source_of}
 use Rattle.geo_program.proofs.Propositions.{program_well_formed}
-use Rattle.log_maker.specs.declared.errors.ProveError.TheVariants.{NoMemory}
-use Rattle.log_maker.specs.declared.frame.Frame.TheVariants.{Full}
-use Rattle.log_maker.specs.Parts.{items_of, log_part}
-use Rattle.log_maker.specs.Tasks.{conditions_from}
-use Rattle.log_maker.specs.Written.{first_state, state}
-use Rattle.geo_prover.proofs.Finishing.{about, can_write, concluded, halted, halted_among, left_of, nothing_written, past_program, ready}
-use Rattle.geo_prover.proofs.Finishing.{subject_of}
-use Rattle.log_maker.proofs.Handing.{if_err}
-use Rattle.log_maker.proofs.Passing.{can_write_on, finishes_on, halts_on}
+use Rattle.geo_lowering.specs.declared.version.Version.TheVariants.{Two}
+use Rattle.log_checker.specs.Checkers.{subject_of}
+use Rattle.log_checker.specs.Subjects.{source_lines}
+use Rattle.log_checker.proofs.DueProblems.{about}
+use Rattle.log_checker.proofs.LineFeeds.{program_one_line}
+use Rattle.geo_chain.specs.declared.errors.ProveError.TheVariants.{NoMemory}
+use Rattle.geo_chain.specs.declared.frame.Frame.TheVariants.{Full}
+use Rattle.geo_chain.specs.Parts.{log_part}
+use Rattle.geo_chain.specs.Tasks.{conditions_from}
+use Rattle.geo_chain.specs.Written.{first_state, state}
+use Rattle.geo_chain.proofs.Handing.{if_err}
+use Rattle.geo_chain.proofs.Passing.{can_write_on, finishes_on, halts_on}
+use Rattle.geo_chain.proofs.WholeLogs.{past_program}
+use Rattle.geo_prover.proofs.Finishing.{can_write, concluded, halted, halted_among, left_of, nothing_written, ready}
 use Rattle.geo_prover.proofs.proving.prove_all.Goals as goal
 
 pub returns-in_err-problem-clause-err : goal.returns-in_err-problem-clause-err
@@ -34,12 +39,11 @@ returns-in_err-write_first_lines-clause-err g c =
     let s = state c.new-log.result (g.K.Sink.held c.args.sink.now) (g.K.Sink.faults c.args.sink.now) in
     let t = state c.write_first_lines.new.log (g.K.Sink.held c.write_first_lines.new.sink) (g.K.Sink.faults c.write_first_lines.new.sink) in
     let problem = c.in_ok-problem.problem in
-    let own = about p problem w c.in_ok-problem.ensures in
-    let xs = items_of problem.steps.nodes problem.conditions in
-    let ys = items_of problem.steps.nodes problem.goals in
+    let subject = subject_of (2, source_lines p) problem in
+    let own = about Two p problem c.in_ok-problem.ensures in
     if_err _ _ c.in_err-write_first_lines.field-0.0 c.from_residual-in_err-write_first_lines.ensures.1
-    (halted_among p problem.steps xs ys c.args.steps w small own s t c.new-log.ensures.lines c.new-log.ensures.size
-    c.in_err-write_first_lines.field-0.0 c.in_err-write_first_lines.ensures.err)
+    (halted_among p subject c.args.steps w small own refl s t c.new-log.ensures.lines c.new-log.ensures.size
+    c.in_err-write_first_lines.field-0.0 (c.in_err-write_first_lines.ensures.err (program_one_line p w)))
 
 pub work-requires-clause-ready : goal.work-requires-clause-ready
 work-requires-clause-ready g c =
@@ -53,14 +57,13 @@ work-requires-clause-writable g c =
     let s = state c.new-log.result (g.K.Sink.held c.args.sink.now) (g.K.Sink.faults c.args.sink.now) in
     let t = state c.write_first_lines.new.log (g.K.Sink.held c.write_first_lines.new.sink) (g.K.Sink.faults c.write_first_lines.new.sink) in
     let problem = c.in_ok-problem.problem in
-    let own = about p problem w c.in_ok-problem.ensures in
-    let xs = items_of problem.steps.nodes problem.conditions in
-    let ys = items_of problem.steps.nodes problem.goals in
-    let whole = log_part Full (subject_of p problem) c.args.steps in
+    let subject = subject_of (2, source_lines p) problem in
+    let own = about Two p problem c.in_ok-problem.ensures in
+    let whole = log_part Full subject c.args.steps in
     let first = conditions_from Full problem 0 [] [] c.args.steps in
-    let passed = past_program p problem.steps xs ys c.args.steps w small own s t c.in_ok-write_first_lines.ensures.ok in
+    let passed = past_program subject c.args.steps s t (c.in_ok-write_first_lines.ensures.ok (program_one_line p w)) in
     can_write_on Full problem.steps whole first s t passed
-    (can_write p problem.steps xs ys c.args.steps w small own c.new-log.result.size c.new-log.ensures.size)
+    (can_write p subject c.args.steps w small own refl c.new-log.result.size c.new-log.ensures.size)
 
 pub returns-in_err-verdict-clause-err : goal.returns-in_err-verdict-clause-err
 returns-in_err-verdict-clause-err g c =
@@ -70,15 +73,14 @@ returns-in_err-verdict-clause-err g c =
     let s = state c.new-log.result (g.K.Sink.held c.args.sink.now) (g.K.Sink.faults c.args.sink.now) in
     let t = state c.write_first_lines.new.log (g.K.Sink.held c.write_first_lines.new.sink) (g.K.Sink.faults c.write_first_lines.new.sink) in
     let problem = c.in_ok-problem.problem in
-    let own = about p problem w c.in_ok-problem.ensures in
-    let xs = items_of problem.steps.nodes problem.conditions in
-    let ys = items_of problem.steps.nodes problem.goals in
-    let whole = log_part Full (subject_of p problem) c.args.steps in
+    let subject = subject_of (2, source_lines p) problem in
+    let own = about Two p problem c.in_ok-problem.ensures in
+    let whole = log_part Full subject c.args.steps in
     let first = conditions_from Full problem 0 [] [] c.args.steps in
-    let passed = past_program p problem.steps xs ys c.args.steps w small own s t c.in_ok-write_first_lines.ensures.ok in
+    let passed = past_program subject c.args.steps s t (c.in_ok-write_first_lines.ensures.ok (program_one_line p w)) in
     let u = state c.work.new.log (g.K.Sink.held c.work.new.sink) (g.K.Sink.faults c.work.new.sink) in
     if_err _ _ c.in_err-verdict.field-0.0 c.from_residual-in_err-verdict.ensures.1
-    (halted p problem.steps xs ys c.args.steps w small own s u c.new-log.ensures.lines c.new-log.ensures.size c.in_err-verdict.field-0.0
+    (halted p subject c.args.steps w small own refl s u c.new-log.ensures.lines c.new-log.ensures.size c.in_err-verdict.field-0.0
     (halts_on Full problem.steps whole first s t u passed c.in_err-verdict.field-0.0 c.in_err-verdict.ensures.err))
 
 pub overflow_sub-result : goal.overflow_sub-result
@@ -89,15 +91,14 @@ overflow_sub-result g c =
     let s = state c.new-log.result (g.K.Sink.held c.args.sink.now) (g.K.Sink.faults c.args.sink.now) in
     let t = state c.write_first_lines.new.log (g.K.Sink.held c.write_first_lines.new.sink) (g.K.Sink.faults c.write_first_lines.new.sink) in
     let problem = c.in_ok-problem.problem in
-    let own = about p problem w c.in_ok-problem.ensures in
-    let xs = items_of problem.steps.nodes problem.conditions in
-    let ys = items_of problem.steps.nodes problem.goals in
-    let whole = log_part Full (subject_of p problem) c.args.steps in
+    let subject = subject_of (2, source_lines p) problem in
+    let own = about Two p problem c.in_ok-problem.ensures in
+    let whole = log_part Full subject c.args.steps in
     let first = conditions_from Full problem 0 [] [] c.args.steps in
-    let passed = past_program p problem.steps xs ys c.args.steps w small own s t c.in_ok-write_first_lines.ensures.ok in
+    let passed = past_program subject c.args.steps s t (c.in_ok-write_first_lines.ensures.ok (program_one_line p w)) in
     let u = state c.work.new.log (g.K.Sink.held c.work.new.sink) (g.K.Sink.faults c.work.new.sink) in
     let all = finishes_on whole first s t u c.in_ok-verdict.verdict c.work.new.budget.left passed c.in_ok-verdict.ensures.ok in
-    left_of p problem.steps xs ys c.args.steps w small own s u c.new-log.ensures.lines c.new-log.ensures.size all.lines c.in_ok-verdict.verdict
+    left_of p subject c.args.steps w small own refl s u c.new-log.ensures.lines c.new-log.ensures.size all.lines c.in_ok-verdict.verdict
     c.work.new.budget.left all.whole
 
 pub returns-clause-ok : goal.returns-clause-ok
@@ -108,13 +109,18 @@ returns-clause-ok g c =
     let s = state c.new-log.result (g.K.Sink.held c.args.sink.now) (g.K.Sink.faults c.args.sink.now) in
     let t = state c.write_first_lines.new.log (g.K.Sink.held c.write_first_lines.new.sink) (g.K.Sink.faults c.write_first_lines.new.sink) in
     let problem = c.in_ok-problem.problem in
-    let own = about p problem w c.in_ok-problem.ensures in
-    let xs = items_of problem.steps.nodes problem.conditions in
-    let ys = items_of problem.steps.nodes problem.goals in
-    let whole = log_part Full (subject_of p problem) c.args.steps in
+    let subject = subject_of (2, source_lines p) problem in
+    let own = about Two p problem c.in_ok-problem.ensures in
+    let whole = log_part Full subject c.args.steps in
     let first = conditions_from Full problem 0 [] [] c.args.steps in
-    let passed = past_program p problem.steps xs ys c.args.steps w small own s t c.in_ok-write_first_lines.ensures.ok in
+    let passed = past_program subject c.args.steps s t (c.in_ok-write_first_lines.ensures.ok (program_one_line p w)) in
     let u = state c.work.new.log (g.K.Sink.held c.work.new.sink) (g.K.Sink.faults c.work.new.sink) in
     let all = finishes_on whole first s t u c.in_ok-verdict.verdict c.work.new.budget.left passed c.in_ok-verdict.ensures.ok in
-    concluded p problem.steps xs ys c.args.steps w small own s u c.new-log.ensures.lines c.new-log.ensures.size _ c.work.new.budget.left all
+    concluded p subject c.args.steps w small own refl s u c.new-log.ensures.lines c.new-log.ensures.size _ c.work.new.budget.left all
     c.work.new.log.within refl refl
+
+pub returns-clause-faults : goal.returns-clause-faults
+returns-clause-faults g c =
+    let p = source_of c.args.program.now in
+    let first = c.in_ok-write_first_lines.ensures.ok (program_one_line p (program_well_formed c.args.program.now)) in
+    c.in_ok-verdict.ensures.ok.written.faults ∙ first.faults

@@ -9,6 +9,6 @@ returns-clause-accepted c =
     record {
       variables = ap (λ vs. map (λ v. v.0) vs) (sym listed) ∙ c.if-not-are_variables_of.ensures.0 refl ∙ wanted ∙ c.in_ok-variables.ensures;
       fits = all_fit c.args.values.now c.requires;
-      made = c.in_ok-values_hold.ensures.made;
-      nonzero = c.in_ok-values_hold.ensures.hold.0 c.if-not-branch.false;
+      made = c.in_ok-values_hold_uncounted.ensures.made;
+      nonzero = c.in_ok-values_hold_uncounted.ensures.hold.0 c.if-not-branch.false;
     }

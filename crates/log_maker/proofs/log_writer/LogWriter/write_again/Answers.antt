@@ -1,6 +1,0 @@
-use Rattle.log_maker.proofs.Handing.{if_err}
-use Rattle.log_maker.proofs.log_writer.LogWriter.write_again.Goals as goal
-
-pub returns-in_err-size-clause-err : goal.returns-in_err-size-clause-err
-returns-in_err-size-clause-err g c = if_err _ _ c.in_err-size.field-0.0 c.from_residual.ensures.1
-    (c.in_err-size.ensures.err c.args.self.now.lines)

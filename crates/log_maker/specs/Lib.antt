@@ -1,9 +1,0 @@
-pub mod Frames
-pub mod FixedLogs
-pub mod InFrame
-pub mod Sizes
-pub mod Causes
-pub mod Written
-pub mod Parts
-pub mod Halting
-pub mod Tasks
