@@ -97,15 +97,29 @@ start() {
   number_of[$!]=$1
 }
 
-# wait_for_one: until one of those in the background has ended
+# wait_for_one: until one of those in the background has ended. `wait -n` tells of none where the last one ends just before it waits,
+# or where a signal ended one while it waited for another; then one is waited for by its number, whose status the shell keeps.
 wait_for_one() {
   local pid='' status
   wait -n -p pid 2>/dev/null
   status=$?
-  [ -n "$pid" ] || stop_all 70
-  [ "$status" -lt 128 ] || status=70
+  if [ -z "${pid-}" ]; then
+    for pid in "${!number_of[@]}"; do break; done
+    wait "$pid" 2>/dev/null
+    status=$?
+  fi
+  if [ "$status" -ge 128 ]; then
+    status=70
+    tell_cut_off "${number_of[$pid]}" 2>/dev/null
+  fi
   ended[${number_of[$pid]}]=$status
   unset "number_of[$pid]"
+}
+
+# tell_cut_off NUMBER: a signal ended the shell of this file before it could tell anything
+tell_cut_off() {
+  local room=$room/job.$1 again='' at=''
+  mkdir -p "$room" && : >"$room/log" && tell "$1" 70 >"$room/out"
 }
 
 # stop_all STATUS: ends what runs in the background, and the call
